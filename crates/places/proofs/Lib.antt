@@ -1,0 +1,9 @@
+pub mod Above
+pub mod Ascend
+pub mod Cuts
+pub mod Grammar
+pub mod Grounds
+pub mod Orders
+pub mod Slashes
+pub mod Texts
+pub mod Walk

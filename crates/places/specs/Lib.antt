@@ -1,0 +1,3 @@
+pub mod Ground
+pub mod Names
+pub mod Order
