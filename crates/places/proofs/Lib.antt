@@ -1,9 +1,12 @@
 pub mod Above
+pub mod Apart
 pub mod Ascend
 pub mod Cuts
 pub mod Grammar
 pub mod Grounds
+pub mod Named
 pub mod Orders
 pub mod Slashes
+pub mod Standing
 pub mod Texts
 pub mod Walk

@@ -9,3 +9,6 @@ mod words;
 pub use names::{is_name, is_path};
 pub use place::{Place, PlaceErr};
 pub use values::{Bytes, Text};
+
+#[cfg(test)]
+mod tests;

@@ -1,7 +1,7 @@
 // An absolute place, which keeps its text and is seen as its names.
 ghost use Rattle.std.specs.Prelude.{◌≡◌, ◌↔◌, ◌==◌, ◌⊎◌, ◌≤◌, ◌<◌, ◌+◌, ◌++◌, ◌∷◌, [], map, List, ℕ, length, string_bytes, IfOk, IsTrue, false, MatchOption, MatchResult};
 ghost use Rattle.std.specs.List.{list_any};
-ghost use Rattle.places.specs.Names.{IsName, IsPlace, IsText, names_of, text_of, slashed, slash, joined, pieces, is_path, longest, IsAbove, IsAtOrAbove, is_above, IsPathBelow, target};
+ghost use Rattle.places.specs.Names.{IsName, IsPlace, IsText, names_of, text_of, slashed, slash, joined, pieces, is_path, longest, IsAbove, IsAtOrAbove, is_above, IsPathBelow, target, has_name};
 ghost use Rattle.places.specs.declared.place.PlaceErr.TheVariants.{Bad, NoMemory};
 ghost use Rattle.std.proofs.Common.{rules};
 ghost use Rattle.std.specs.Cmp.{partial_order_from_own_ties, partial_order_from_total};
@@ -16,7 +16,7 @@ use std::cmp::Ordering;
 use std::marker::Model;
 use thiserror::Error;
 
-#[derive(Drop)]
+#[derive(Debug, Drop)]
 pub struct Place {
     text: String,
 }
@@ -142,8 +142,8 @@ impl Place {
         if text.len() == 1 { "" } else { text }
     }
 
-    // The text of a path below this place.
-    fn joined(&self, alloc: Global, path: &str) -> Result<String, AllocError>
+    /// The text of a path below this place, which may be too long for a place.
+    pub fn joined(&self, alloc: Global, path: &str) -> Result<String, AllocError>
         ensures ok { IfOk result (λ t. string_bytes t ≡ joined self.now path.now) }
         ensures place { IsPlace self.now }
     {
@@ -239,6 +239,14 @@ impl Place {
             None => false,
             Some(rest) => without_slash(rest).is_some(),
         }
+    }
+
+    /// Whether one of its names is this one.
+    pub fn has_name(&self, name: &str) -> bool
+        requires { 0 < length name.now }
+        ensures { result ≡ has_name name.now self.now }
+    {
+        self.base().split('/').any(|part| name == part)
     }
 }
 

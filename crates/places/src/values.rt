@@ -1,5 +1,5 @@
 // Texts and bytes as values: contracts see them as lists, and say nothing of their memory.
-ghost use Rattle.std.specs.Prelude.{◌≡◌, string_bytes};
+ghost use Rattle.std.specs.Prelude.{◌≡◌, IsUtf8, string_bytes};
 
 use std::marker::Model;
 
@@ -26,7 +26,8 @@ impl Text {
     }
 
     pub fn as_str(&self) -> &str
-        ensures { result.now ≡ self.now }
+        ensures value { result.now ≡ self.now }
+        ensures utf8 { IsUtf8 self.now }
     {
         self.text.as_str()
     }
