@@ -1,0 +1,10 @@
+pub mod Commits
+pub mod Entries
+pub mod Headers
+pub mod Ids
+pub mod Kinds
+pub mod Objects
+pub mod People
+pub mod Persons
+pub mod Readings
+pub mod Sorted

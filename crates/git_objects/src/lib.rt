@@ -1,0 +1,24 @@
+//! Objects of git: ids, trees and commits, and the texts that they are stored as.
+#![tactic(auto)]
+
+mod commits;
+mod entries;
+mod errors;
+mod headers;
+mod ids;
+mod objects;
+mod people;
+mod reading;
+#[cfg(test)]
+mod tests;
+mod trees;
+
+pub use commits::Commit;
+pub use entries::{Mode, TreeEntry};
+pub use errors::ObjErr;
+pub use headers::is_extra;
+pub use ids::Id;
+pub use objects::{ObjKind, blob_id, object_id, object_text};
+pub use people::{Person, is_person};
+pub use reading::read_object;
+pub use trees::{Tree, are_entries};
