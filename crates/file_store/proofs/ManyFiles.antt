@@ -1,0 +1,89 @@
+-- A list of files replaced, round by round.
+use Rattle.std.proofs.Common.{◌≡◌, ◌≢◌, ◌≤◌, inl, inr, ℕ, suc, zero, true, Bool, IsTrue, cond, List, [], ◌∷◌, Option, Some, None, Ok, Err, Result, refl, sym, ◌∙◌, ap, subst, arith}
+use Rattle.std.specs.Prelude.{slice_get}
+use Rattle.std.specs.FinMap.{insert}
+use Rattle.places.specs.Ground.{Ground, file_at}
+use Rattle.places.proofs.Grounds.{file_at-insert_same, file_at-insert_other}
+use Rattle.file_store.specs.Disk.{Disk, Drive, History, Since, next, MayStep, IsSynced, at_rest, synced}
+use Rattle.file_store.specs.Ends.{present, BarrierEnds}
+use Rattle.file_store.specs.Replaced.{staged, installed, stage_block, move_block, block_of, or_next, first_shut, ReplaceEnds, AreApart, IsNoTmp, Between, Allows}
+use Rattle.file_store.specs.Rounds.{StageEnds, AreReady, MoveEnds}
+use Rattle.file_store.specs.declared.faults.FileErr.{FileErr}
+use Rattle.file_store.specs.declared.faults.FileErr.TheVariants.{Failed, Blocked, NoMemory}
+use Rattle.file_store.specs.declared.replacing.Replacement.{Replacement}
+use Rattle.file_store.proofs.Moments.{last, goes_on}
+use Rattle.file_store.proofs.OldOrNew.{Allows-joins, Allows-synced}
+
+-- ---- between the rounds
+
+staged_other : (list : List Replacement) (g : Ground) (q : List (List ℕ)) → IsNoTmp list q → file_at (staged list g) q ≡ file_at g q
+staged_other [] g q no_tmp = refl
+staged_other (x ∷ xs) g q no_tmp = staged_other xs (insert g x.tmp x.bytes) q (λ i r listed. no_tmp (suc i) r listed) ∙ file_at-insert_other g x.tmp x.bytes q (no_tmp 0 x refl)
+
+abbrev AreOwn : List Replacement → Type 0
+AreOwn list = (i j : ℕ) (r s : Replacement) → slice_get list i ≡ Some r → slice_get list j ≡ Some s → i ≢ j → r.tmp ≢ s.tmp
+
+staged_stands : (list : List Replacement) (g : Ground) → AreOwn list → (i : ℕ) (r : Replacement) → slice_get list i ≡ Some r → file_at (staged list g) r.tmp ≡ Some r.bytes
+staged_stands [] g own i r listed = absurd (cc)
+staged_stands (x ∷ xs) g own zero r listed =
+    let is : x ≡ r = cc in
+    subst (λ (y : Replacement). file_at (staged xs (insert g x.tmp x.bytes)) y.tmp ≡ Some y.bytes) is
+    (staged_other xs (insert g x.tmp x.bytes) x.tmp (λ j s at_j. own 0 (suc j) x s refl at_j (λ e. absurd (omega (arith, e)))) ∙ file_at-insert_same g x.tmp x.bytes x.tmp refl)
+staged_stands (x ∷ xs) g own (suc i) r listed =
+    staged_stands xs (insert g x.tmp x.bytes) (λ j k a b at_j at_k ne. own (suc j) (suc k) a b at_j at_k (λ e. ne (omega (arith, e)))) i r listed
+
+module _ (list : List Replacement) (d0 d1 d2 : Drive) (wrote : present d1 ≡ staged list (present d0)) (kept : d2.history ≡ next d1.history (synced d1.history.latest)) where
+  rests : d2.history.latest ≡ at_rest (present d1)
+  rests = ap (λ (h : History). h.latest) kept
+
+  present_staged : present d2 ≡ staged list (present d0)
+  present_staged = ap (λ (d : Disk). d.now) rests ∙ wrote
+
+  pub are_ready : AreApart list → AreReady list d2
+  are_ready apart = record {
+    safe = rests ∙ sym (ap (λ (d : Disk). at_rest d.now) rests);
+    files = λ i r listed. ap (λ (g : Ground). file_at g r.tmp) present_staged ∙ staged_stands list (present d0) apart.tmps i r listed;
+  }
+
+-- ---- a barrier
+
+module _ (IsFirm : List (List ℕ) → Type 0) (New : List (List ℕ) → Option (List ℕ) → Type 0) where
+  pub sync_left : (g : Ground) (mid new : History) → MayStep IsSynced mid new → Between IsFirm New g mid.latest.now → Between IsFirm New g new.latest.now
+  sync_left g mid new (inl stays) so_far = subst (λ (h : History). Between IsFirm New g h.latest.now) (sym stays) so_far
+  sync_left g mid new (inr went) so_far = subst (λ (h : History). Between IsFirm New g h.latest.now) (sym went.2)
+      (subst (λ (d : Disk). Between IsFirm New g d.now) (sym went.1) so_far)
+
+  pub sync_crash : (start mid new : History) → MayStep IsSynced mid new → Since (Allows IsFirm New start.latest) start mid → Since (Allows IsFirm New start.latest) start new
+  sync_crash start mid new step so_far = goes_on IsSynced so_far step
+      (λ d is. subst (Allows IsFirm New start.latest) (sym is) (Allows-joins IsFirm New start.latest mid.latest (synced mid.latest) (last so_far) (Allows-synced IsFirm New mid.latest)))
+
+-- ---- how it ends
+
+-- where the writes are not refused, the first isn't
+not_first : (list : List Replacement) (g : Ground) → stage_block list g ≡ None → first_shut list g ≡ true → ⊥
+not_first [] g free shut = absurd (cc)
+not_first (r ∷ list) g free shut =
+    let here : Some r.tmp ≡ None = sym (ap (λ b. cond b (Some r.tmp) (stage_block list (insert g r.tmp r.bytes))) shut) ∙ free in
+    absurd (cc)
+
+module _ (tells : Bool) (list : List Replacement) (d0 d1 d2 : Drive) (wrote : StageEnds tells list d0 d1 (Ok tt)) (kept : BarrierEnds tells d1 d2 (Ok tt)) (fewer : d0.faults ≤ d2.faults) where
+  -- the block, once the writes weren't refused
+  late_block : IsTrue tells → block_of list (present d0) ≡ move_block list (present d2)
+  late_block told =
+      ap (λ b. or_next b (move_block list (staged list (present d0)))) (wrote told).1
+      ∙ ap (λ (g : Ground). move_block list g) (sym (present_staged list d0 d1 d2 (wrote told).0 (kept told)))
+
+  pub move_fails : (d3 : Drive) (e : FileErr) → MoveEnds tells list d2 d3 (Err e) → ReplaceEnds tells list d0 d3 (Err e)
+  move_fails d3 Failed ends = omega (arith, ends, fewer)
+  move_fails d3 (Blocked at) ends = (ends.0, late_block ends.0 ∙ ends.1, λ shut. absurd (not_first list (present d0) (wrote ends.0).1 shut))
+  move_fails d3 NoMemory ends = tt
+
+  pub all_ends : (d3 d4 : Drive) (r : Result (Unit {0}) FileErr) → MoveEnds tells list d2 d3 (Ok tt) → d2.faults ≤ d3.faults → BarrierEnds tells d3 d4 r → ReplaceEnds tells list d0 d4 r
+  all_ends d3 d4 (Ok _) moves more ends = λ told. (
+    ap (λ (h : History). h.latest) (ends told)
+        ∙ ap at_rest ((moves told).0 ∙ ap (λ (g : Ground). installed list g) (present_staged list d0 d1 d2 (wrote told).0 (kept told))),
+    late_block told ∙ (moves told).1,
+  )
+  all_ends d3 d4 (Err Failed) moves more ends = omega (arith, ends, fewer, more)
+  all_ends d3 d4 (Err (Blocked at)) moves more ends = absurd ends
+  all_ends d3 d4 (Err NoMemory) moves more ends = tt

@@ -1,0 +1,16 @@
+pub mod Causes
+pub mod Disk
+pub mod Ends
+pub mod Kinds
+pub mod Lines
+pub mod MemDisk
+pub mod MemFiles
+pub mod MemSink
+pub mod Memory
+pub mod Named
+pub mod Plan
+pub mod Replaced
+pub mod Rounds
+pub mod Stored
+pub mod Tape
+pub mod Troubles

@@ -1,0 +1,215 @@
+// Files in memory: a disk, and round it the plan of the calls that fail.
+//
+// Each call is counted before anything else. One that fails before its effect ends there; one that fails after its
+// effect does all that it would do, and answers Failed.
+ghost use Rattle.std.specs.Prelude.{◌≡◌, MatchResult};
+ghost use Rattle.file_store.specs.declared.memory.errors.MemErr.TheVariants.{NoMemory};
+
+use crate::faults::FileErr;
+use crate::files::Files;
+use crate::kinds::{Item, Kind};
+use crate::memory::contents::Contents;
+use crate::memory::disk::MemDisk;
+use crate::memory::errors::MemErr;
+use crate::memory::lists::contents_of;
+use crate::memory::parts::copy_part;
+use crate::memory::plan::{Plan, Turn, answer};
+use places::Place;
+use std::alloc::Global;
+
+/// Files in memory. They tell what their disk holds.
+#[derive(Drop)]
+pub struct MemFiles {
+    disk: MemDisk,
+    plan: Plan,
+}
+
+impl MemFiles {
+    ghost use Rattle.std.specs.FinMap.{empty};
+    ghost use Rattle.file_store.specs.Memory.{fresh};
+    ghost use Rattle.file_store.specs.Ends.{present};
+    ghost use Rattle.file_store.specs.Stored.{IsListOf};
+    ghost use Rattle.file_store.specs.MemFiles.{drive_of, ListEnds};
+
+    /// No file, and no call that fails.
+    pub fn new(alloc: Global) -> MemFiles
+        ensures { drive_of result ≡ fresh empty }
+    {
+        MemFiles {
+            disk: MemDisk::begin(alloc, Contents::new(alloc), Contents::new(alloc)),
+            plan: Plan::new(alloc),
+        }
+    }
+
+    /// These files, all of them safe, and no call that fails. Clash names the first place that is an earlier one, or
+    /// lies above or below one.
+    pub fn from_list(alloc: Global, list: Vec<(Place, Vec<u8>)>) -> Result<MemFiles, MemErr>
+        ensures { ListEnds list.items result }
+    {
+        let first = contents_of(alloc, list.as_slice())?;
+        let current = contents_of(alloc, list.as_slice())?;
+        Ok(MemFiles {
+            disk: MemDisk::begin(alloc, first, current),
+            plan: Plan::new(alloc),
+        })
+    }
+
+    /// What stands now, in byte order of the places.
+    pub fn to_list(&self, alloc: Global) -> Result<Vec<(Place, Vec<u8>)>, MemErr>
+        ensures { MatchResult result (λ list. IsListOf (present (drive_of self.now)) list.items) (λ e. e ≡ NoMemory) }
+    {
+        Ok(self.disk.to_list(alloc)?)
+    }
+
+    /// The calls with these numbers, counted from 1, fail without effect or after their effect.
+    pub fn fail_at(&mut self, before: Vec<u64>, after: Vec<u64>)
+        ensures { drive_of self.new ≡ drive_of self.old }
+    {
+        self.plan.fail_at(before, after);
+    }
+
+    /// From the n-th call on every call fails without effect.
+    pub fn stop_at(&mut self, n: u64)
+        ensures { drive_of self.new ≡ drive_of self.old }
+    {
+        self.plan.stop_at(n);
+    }
+}
+
+impl Files for MemFiles {
+    ghost use Rattle.std.specs.Prelude.{true};
+    ghost use Rattle.file_store.specs.MemDisk.{grounded_in};
+    ghost use Rattle.file_store.specs.MemFiles.{drive_of};
+
+    ghost tells = { true };
+
+    ghost drive = { drive_of };
+
+    ghost grounded = { λ files _. grounded_in files.disk };
+
+    fn kind(&mut self, _: Global, place: &Place) -> Result<Kind, FileErr> {
+        if self.plan.next() != Turn::Works {
+            return Err(FileErr::Failed);
+        }
+        if self.disk.stands(place) {
+            return Ok(Kind::File);
+        }
+        if self.disk.has_below(place) {
+            return Ok(Kind::Dir);
+        }
+        Ok(Kind::Absent)
+    }
+
+    fn size(&mut self, _: Global, place: &Place) -> Result<Option<u64>, FileErr> {
+        if self.plan.next() != Turn::Works {
+            return Err(FileErr::Failed);
+        }
+        match self.disk.get(place) {
+            Some(bytes) => Ok(Some(bytes.len() as u64)),
+            None => Ok(None),
+        }
+    }
+
+    fn read(&mut self, alloc: Global, place: &Place) -> Result<Option<Vec<u8>>, FileErr> {
+        if self.plan.next() != Turn::Works {
+            return Err(FileErr::Failed);
+        }
+        match self.disk.get(place) {
+            Some(bytes) => Ok(Some(bytes.as_slice().to_vec(alloc)?)),
+            None => Ok(None),
+        }
+    }
+
+    fn read_part(
+        &mut self,
+        _: Global,
+        place: &Place,
+        from: u64,
+        buffer: &mut [u8],
+    ) -> Result<usize, FileErr> {
+        if self.plan.next() != Turn::Works {
+            return Err(FileErr::Failed);
+        }
+        match self.disk.get(place) {
+            Some(bytes) => Ok(copy_part(bytes.as_slice(), from, buffer)),
+            None => Ok(0),
+        }
+    }
+
+    fn list(&mut self, alloc: Global, place: &Place) -> Result<Vec<Item>, FileErr> {
+        if self.plan.next() != Turn::Works {
+            return Err(FileErr::Failed);
+        }
+        Ok(self.disk.list(alloc, place)?)
+    }
+
+    fn write(&mut self, alloc: Global, place: &Place, bytes: &[u8]) -> Result<(), FileErr> {
+        let turn = self.plan.next();
+        if turn == Turn::FailsBefore {
+            return Err(FileErr::Failed);
+        }
+        if self.disk.is_shut(place) {
+            return Err(FileErr::Blocked {
+                place: place.try_clone(alloc)?,
+            });
+        }
+        self.disk.write(alloc, place, bytes)?;
+        answer(turn)
+    }
+
+    fn append(&mut self, alloc: Global, place: &Place, bytes: &[u8]) -> Result<(), FileErr> {
+        let turn = self.plan.next();
+        if turn == Turn::FailsBefore {
+            return Err(FileErr::Failed);
+        }
+        if self.disk.is_shut(place) {
+            return Err(FileErr::Blocked {
+                place: place.try_clone(alloc)?,
+            });
+        }
+        self.disk.append(alloc, place, bytes)?;
+        answer(turn)
+    }
+
+    fn rename(&mut self, alloc: Global, from: &Place, to: &Place) -> Result<bool, FileErr> {
+        let turn = self.plan.next();
+        if turn == Turn::FailsBefore {
+            return Err(FileErr::Failed);
+        }
+        if !self.disk.stands(from) {
+            answer(turn)?;
+            return Ok(false);
+        }
+        if self.disk.is_shut(to) {
+            return Err(FileErr::Blocked {
+                place: to.try_clone(alloc)?,
+            });
+        }
+        self.disk.rename(alloc, from, to)?;
+        answer(turn)?;
+        Ok(true)
+    }
+
+    fn remove(&mut self, alloc: Global, place: &Place) -> Result<bool, FileErr> {
+        let turn = self.plan.next();
+        if turn == Turn::FailsBefore {
+            return Err(FileErr::Failed);
+        }
+        if !self.disk.stands(place) {
+            answer(turn)?;
+            return Ok(false);
+        }
+        self.disk.remove(alloc, place)?;
+        answer(turn)?;
+        Ok(true)
+    }
+
+    fn barrier(&mut self, _: Global) -> Result<(), FileErr> {
+        let turn = self.plan.next();
+        if turn == Turn::FailsBefore {
+            return Err(FileErr::Failed);
+        }
+        self.disk.barrier()?;
+        answer(turn)
+    }
+}

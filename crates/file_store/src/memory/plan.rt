@@ -1,0 +1,104 @@
+// Which calls fail.
+ghost use Rattle.std.specs.Prelude.{◌≡◌, ◌≢◌, ◌≤◌, OnOk, IfErr};
+ghost use Rattle.file_store.specs.Causes.{Rose};
+ghost use Rattle.file_store.specs.declared.memory.plan.Turn.TheVariants.{Works};
+ghost use Rattle.file_store.specs.declared.faults.FileErr.TheVariants.{Failed};
+
+use crate::faults::FileErr;
+use std::alloc::Global;
+
+/// What happens to a call.
+#[derive(Clone, Copy, PartialEq, Eq)]
+pub(crate) enum Turn {
+    Works,
+    FailsBefore,
+    FailsAfter,
+}
+
+/// Which calls fail, without their effect or after it. They are counted from 1.
+#[derive(Drop)]
+pub(crate) struct Plan {
+    calls: u64,
+    faults: u64,
+    before: Vec<u64>,
+    after: Vec<u64>,
+    stop: Option<u64>,
+}
+
+impl Plan {
+    ghost use Rattle.file_store.specs.Plan.{is_stopped, turn_at, turn_of, counted};
+
+    // None fails.
+    pub(crate) fn new(alloc: Global) -> Plan
+        ensures { result.faults ≡ 0 }
+    {
+        Plan {
+            calls: 0,
+            faults: 0,
+            before: Vec::new(alloc),
+            after: Vec::new(alloc),
+            stop: None,
+        }
+    }
+
+    pub(crate) fn fail_at(&mut self, before: Vec<u64>, after: Vec<u64>)
+        ensures { self.new ≡ record self.old { before = before; after = after } }
+    {
+        self.before = before;
+        self.after = after;
+    }
+
+    pub(crate) fn stop_at(&mut self, n: u64)
+        ensures { self.new ≡ record self.old { stop = Some n } }
+    {
+        self.stop = Some(n);
+    }
+
+    // Counts a call, and says what happens to it.
+    pub(crate) fn next(&mut self) -> Turn
+        ensures turn { result ≡ turn_of self.old }
+        ensures plan { self.new ≡ counted self.old }
+        ensures later { self.old.faults ≤ self.new.faults }
+        ensures rose { result ≢ Works → Rose self.old.faults self.new.faults }
+    {
+        self.calls = self.calls.saturating_add(1);
+        let turn = self.turn();
+        if turn != Turn::Works {
+            self.faults = self.faults.saturating_add(1);
+        }
+        turn
+    }
+
+    // What happens to the call that is counted.
+    fn turn(&self) -> Turn
+        ensures { result ≡ turn_at self.now self.now.calls }
+    {
+        if self.is_stopped() || self.before.contains(&self.calls) {
+            Turn::FailsBefore
+        } else if self.after.contains(&self.calls) {
+            Turn::FailsAfter
+        } else {
+            Turn::Works
+        }
+    }
+
+    fn is_stopped(&self) -> bool
+        ensures { result ≡ is_stopped self.now.stop self.now.calls }
+    {
+        match self.stop {
+            Some(n) => n <= self.calls,
+            None => false,
+        }
+    }
+}
+
+// The answer of a call that has come to its end.
+pub(crate) fn answer(turn: Turn) -> Result<(), FileErr>
+    ensures works { OnOk result (turn ≡ Works) }
+    ensures fails { IfErr result (λ e. (e ≡ Failed) × (turn ≢ Works)) }
+{
+    match turn {
+        Turn::Works => Ok(()),
+        _ => Err(FileErr::Failed),
+    }
+}
