@@ -1,0 +1,178 @@
+// The files of the host.
+//
+// A rename is kept only with its directory, so a barrier syncs every directory in which a name changed, beside every
+// file that was written. Directories aren't files: they are made where a file needs them, and removed where a removal
+// leaves them empty.
+ghost use Rattle.std.specs.Prelude.{◌≡◌, ◌≤◌};
+ghost use Rattle.host_edge.specs.Silent.{IsRefusal};
+
+use crate::dirty::Dirty;
+use crate::listing::items_below;
+use crate::paths::{fill_from, kind_of, read_whole, size_of};
+use file_store::{FileErr, Files, Item, Kind, Place};
+use std::alloc::Global;
+use std::fs::{self, OpenOptions};
+use std::io::{self, ErrorKind, Write};
+
+/// The files of the host, from its root on. A symbolic link is Other, a directory without entries Absent.
+#[derive(Drop)]
+pub struct HostFiles<R: std::rt::Files + AllocGlobal + Clone + Drop> {
+    rt: R,
+    faults: u64,
+    dirty: Dirty,
+}
+
+impl<R: std::rt::Files + AllocGlobal + Clone + Drop> HostFiles<R> {
+    pub fn new(alloc: Global, rt: R) -> HostFiles<R> {
+        HostFiles {
+            rt,
+            faults: 0,
+            dirty: Dirty::new(alloc),
+        }
+    }
+
+    // Makes the directories that a file at the place needs, and notes what a barrier has to sync.
+    fn prepare(&mut self, alloc: Global, place: &Place) -> io::Result<()>
+        ensures { self.new.faults ≡ self.old.faults }
+    {
+        self.dirty.make_directories(&self.rt, alloc, place.as_str())
+    }
+
+    fn put(&mut self, alloc: Global, place: &Place, bytes: &[u8], add: bool) -> io::Result<()>
+        ensures { self.new.faults ≡ self.old.faults }
+    {
+        self.prepare(alloc, place)?;
+        self.dirty.note_file(alloc, place.as_str())?;
+        self.dirty.note_name(alloc, place.as_str())?;
+        let mut options = OpenOptions::new();
+        options.create(true);
+        if add {
+            options.append(true);
+        } else {
+            options.write(true).truncate(true);
+        }
+        let mut file = options.open(&self.rt, place.as_str())?;
+        file.write_all(bytes)
+    }
+
+    fn move_file(&mut self, alloc: Global, from: &Place, to: &Place) -> io::Result<()>
+        ensures { self.new.faults ≡ self.old.faults }
+    {
+        self.prepare(alloc, to)?;
+        self.dirty.note_name(alloc, from.as_str())?;
+        self.dirty.note_name(alloc, to.as_str())?;
+        fs::rename(&self.rt, from.as_str(), to.as_str())
+    }
+
+    fn remove_file(&mut self, alloc: Global, place: &Place) -> io::Result<bool>
+        ensures { self.new.faults ≡ self.old.faults }
+    {
+        if kind_of(&self.rt, place.as_str())? != Kind::File {
+            return Ok(false);
+        }
+        self.dirty.note_name(alloc, place.as_str())?;
+        fs::remove_file(&self.rt, place.as_str())?;
+        self.dirty.remove_emptied(&self.rt, alloc, place.as_str())?;
+        Ok(true)
+    }
+}
+
+// An error of the host: a fault that is counted, or want of memory.
+fn refusal(faults: &mut u64, error: io::Error) -> FileErr
+    ensures later { faults.old ≤ faults.new }
+    ensures cause { IsRefusal faults.old faults.new result }
+{
+    if error.kind() == ErrorKind::OutOfMemory {
+        return FileErr::NoMemory;
+    }
+    *faults = faults.saturating_add(1);
+    FileErr::Failed
+}
+
+impl<R: std::rt::Files + AllocGlobal + Clone + Drop> Files for HostFiles<R> {
+    ghost use Rattle.std.specs.Prelude.{false};
+    ghost use Rattle.std.proofs.lemmas.Bool.{false≢true};
+    ghost use Rattle.host_edge.specs.Silent.{silent};
+
+    ghost tells = { false };
+
+    ghost drive = { λ s. silent s.faults };
+
+    ghost grounded = { λ _ told. absurd (false≢true told) };
+
+    fn kind(&mut self, _alloc: Global, place: &Place) -> Result<Kind, FileErr> {
+        match kind_of(&self.rt, place.as_str()) {
+            Ok(kind) => Ok(kind),
+            Err(e) => Err(refusal(&mut self.faults, e)),
+        }
+    }
+
+    fn size(&mut self, _alloc: Global, place: &Place) -> Result<Option<u64>, FileErr> {
+        match size_of(&self.rt, place.as_str()) {
+            Ok(size) => Ok(size),
+            Err(e) => Err(refusal(&mut self.faults, e)),
+        }
+    }
+
+    fn read(&mut self, alloc: Global, place: &Place) -> Result<Option<Vec<u8>>, FileErr> {
+        match read_whole(&self.rt, alloc, place.as_str()) {
+            Ok(bytes) => Ok(bytes),
+            Err(e) => Err(refusal(&mut self.faults, e)),
+        }
+    }
+
+    fn read_part(
+        &mut self,
+        _alloc: Global,
+        place: &Place,
+        from: u64,
+        buffer: &mut [u8],
+    ) -> Result<usize, FileErr> {
+        match fill_from(&self.rt, place.as_str(), from, buffer) {
+            Ok(count) => Ok(count),
+            Err(e) => Err(refusal(&mut self.faults, e)),
+        }
+    }
+
+    fn list(&mut self, alloc: Global, place: &Place) -> Result<Vec<Item>, FileErr> {
+        match items_below(&self.rt, alloc, place.as_str()) {
+            Ok(items) => Ok(items),
+            Err(e) => Err(refusal(&mut self.faults, e)),
+        }
+    }
+
+    fn write(&mut self, alloc: Global, place: &Place, bytes: &[u8]) -> Result<(), FileErr> {
+        match self.put(alloc, place, bytes, false) {
+            Ok(()) => Ok(()),
+            Err(e) => Err(refusal(&mut self.faults, e)),
+        }
+    }
+
+    fn append(&mut self, alloc: Global, place: &Place, bytes: &[u8]) -> Result<(), FileErr> {
+        match self.put(alloc, place, bytes, true) {
+            Ok(()) => Ok(()),
+            Err(e) => Err(refusal(&mut self.faults, e)),
+        }
+    }
+
+    fn rename(&mut self, alloc: Global, from: &Place, to: &Place) -> Result<bool, FileErr> {
+        match self.move_file(alloc, from, to) {
+            Ok(()) => Ok(true),
+            Err(e) => Err(refusal(&mut self.faults, e)),
+        }
+    }
+
+    fn remove(&mut self, alloc: Global, place: &Place) -> Result<bool, FileErr> {
+        match self.remove_file(alloc, place) {
+            Ok(found) => Ok(found),
+            Err(e) => Err(refusal(&mut self.faults, e)),
+        }
+    }
+
+    fn barrier(&mut self, _alloc: Global) -> Result<(), FileErr> {
+        match self.dirty.sync(&self.rt) {
+            Ok(()) => Ok(()),
+            Err(e) => Err(refusal(&mut self.faults, e)),
+        }
+    }
+}

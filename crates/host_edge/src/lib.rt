@@ -1,0 +1,13 @@
+//! The host's files and outputs: the trusted edge. Each error is counted as a fault, and nothing is told of contents.
+#![tactic(auto)]
+
+mod dirty;
+mod disk;
+mod listing;
+mod output;
+mod paths;
+#[cfg(test)]
+mod tests;
+
+pub use disk::HostFiles;
+pub use output::HostSink;
