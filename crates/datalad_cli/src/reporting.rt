@@ -1,0 +1,117 @@
+// Printing what came of a call: the result lines, then the text of the ending.
+ghost use Rattle.std.specs.Prelude.{◌≡◌, ◌≤◌, IsTrue, IfOk, string_bytes};
+ghost use Rattle.file_store.specs.Lines.{line_text as line_of};
+ghost use Rattle.datalad_cli.specs.Answer.{lines_text as lines_of, device_text, memory_text, usage_text as usage_of};
+ghost use Rattle.datalad_cli.specs.Reports.{TookPart, UsageEnds, RefusalEnds, ReportEnds};
+ghost use Rattle.datalad_cli.specs.declared.status.Status.TheVariants.{Device, NoMemory};
+
+use crate::fault_texts::fault_text;
+use crate::status::Status;
+use file_store::{Fault, Line, PlaceErr, Sink, SinkErr, Trouble, write_whole};
+use std::alloc::{AllocError, Global};
+
+// All lines, one after the other.
+fn lines_text(alloc: Global, lines: &[Line]) -> Result<String, AllocError>
+    ensures { IfOk result (λ text. string_bytes text ≡ lines_of lines.now) }
+{
+    let mut text = String::new(alloc);
+    for line in lines {
+        text.push_str(line_text(alloc, line)?.as_str())?;
+    }
+    Ok(text)
+}
+
+fn line_text(alloc: Global, line: &Line) -> Result<String, AllocError>
+    ensures { IfOk result (λ text. string_bytes text ≡ line_of line.now) }
+{
+    match line.text(alloc) {
+        Ok(text) => Ok(text),
+        Err(PlaceErr::NoMemory) => Err(AllocError),
+        Err(_) => unreachable!(),
+    }
+}
+
+fn usage_text(alloc: Global, at: u64) -> Result<String, AllocError>
+    ensures { IfOk result (λ text. string_bytes text ≡ usage_of at) }
+{
+    format!(in alloc; "datalad: usage: word {at}\n")
+}
+
+// The ending where a device failed. What comes of its text changes nothing any more.
+fn failed<S: Sink>(sink: &mut S) -> Status
+    ensures later { (S.tape sink.old).faults ≤ (S.tape sink.new).faults }
+    ensures status { result ≡ Device }
+    ensures part { IsTrue S.tells → TookPart (S.tape sink.old) (S.tape sink.new) device_text }
+{
+    let _ = write_whole(sink, b"datalad: a device failed\n");
+    Status::Device
+}
+
+// The ending where memory was wanting.
+fn starved<S: Sink>(sink: &mut S) -> Status
+    ensures later { (S.tape sink.old).faults ≤ (S.tape sink.new).faults }
+    ensures status { result ≡ NoMemory }
+    ensures part { IsTrue S.tells → TookPart (S.tape sink.old) (S.tape sink.new) memory_text }
+{
+    let _ = write_whole(sink, b"datalad: no memory\n");
+    Status::NoMemory
+}
+
+/// The ending of words that have no reading.
+pub(crate) fn say_usage<S: Sink>(alloc: Global, sink: &mut S, at: u64) -> Status
+    ensures later { (S.tape sink.old).faults ≤ (S.tape sink.new).faults }
+    ensures ends { UsageEnds S.tells at (S.tape sink.old) (S.tape sink.new) result }
+{
+    match usage_text(alloc, at) {
+        Err(_) => starved(sink),
+        Ok(text) => match write_whole(sink, text.as_str().as_bytes()) {
+            Ok(()) => Status::Usage { at },
+            Err(SinkErr::Failed) => Status::Device,
+            Err(SinkErr::NoMemory) => Status::NoMemory,
+        },
+    }
+}
+
+// The ending of a refused command.
+fn say_refused<S: Sink>(alloc: Global, sink: &mut S, fault: Fault) -> Status
+    ensures later { (S.tape sink.old).faults ≤ (S.tape sink.new).faults }
+    ensures ends { RefusalEnds S.tells fault (S.tape sink.old) (S.tape sink.new) result }
+{
+    match fault_text(alloc, &fault) {
+        Err(_) => starved(sink),
+        Ok(text) => match write_whole(sink, text.as_str().as_bytes()) {
+            Ok(()) => Status::Refused(fault),
+            Err(SinkErr::Failed) => Status::Device,
+            Err(SinkErr::NoMemory) => Status::NoMemory,
+        },
+    }
+}
+
+/// Prints the lines, and then what the outcome says.
+pub(crate) fn report<O: Sink, E: Sink>(
+    alloc: Global,
+    out: &mut O,
+    err: &mut E,
+    lines: &[Line],
+    outcome: Result<(), Trouble>,
+) -> Status
+    ensures out_later { (O.tape out.old).faults ≤ (O.tape out.new).faults }
+    ensures err_later { (E.tape err.old).faults ≤ (E.tape err.new).faults }
+    ensures ends { ReportEnds (record { out = O.tells; err = E.tells }) lines.now outcome (record { out = O.tape out.old; err = E.tape err.old }) (record { out = O.tape out.new; err = E.tape err.new }) result }
+{
+    let text = match lines_text(alloc, lines) {
+        Ok(text) => text,
+        Err(_) => return starved(err),
+    };
+    match write_whole(out, text.as_str().as_bytes()) {
+        Ok(()) => {}
+        Err(SinkErr::Failed) => return failed(err),
+        Err(SinkErr::NoMemory) => return starved(err),
+    }
+    match outcome {
+        Ok(()) => Status::Done,
+        Err(Trouble::Refused(fault)) => say_refused(alloc, err, fault),
+        Err(Trouble::Device) => failed(err),
+        Err(Trouble::NoMemory) => starved(err),
+    }
+}
