@@ -117,6 +117,15 @@ fn texts_of_copies(rt: HostRuntime) -> Result<(), Fail> {
             },
             "datalad: too few copies of KEY: 1 found, 2 needed\n",
         ),
+    ];
+    says(&rt, alloc, &rows);
+    Ok(())
+}
+
+#[test]
+fn texts_of_pins_and_sizes(rt: HostRuntime) -> Result<(), Fail> {
+    let alloc = rt.alloc();
+    let rows = [
         (
             Fault::PinMissing {
                 path: a(alloc)?,
