@@ -131,14 +131,15 @@ module _ (tells : Bool) (root : List (List ℕ)) (moment : ℕ) (fresh : List �
 
       -- what stands, whatever the answer
       pub create_left : (new : Drive) → (IsTrue tells → IsGround (present new))
-          → (IsTrue tells → IsVacant root (present mid) → Partly root (present mid) (with_dataset root parts (present mid)) (present new))
-          → IsTrue tells → Partly root (present old) (created_or_not root moment fresh (present old)) (present new)
+          → (IsTrue tells → IsVacant root (present mid) → Partly root parts.objects (present mid) (with_dataset root parts (present mid)) (present new))
+          → IsTrue tells → Partly root (new_parts root moment fresh).objects (present old) (created_or_not root moment fresh (present old)) (present new)
       create_left new clash_free left told =
-          let part : Partly root (present old) (with_dataset root parts (present old)) (present new) =
-          subst (λ (g : Ground). Partly root g (with_dataset root parts g) (present new)) (now_same told) (left told (vacant_mid told)) in
-          let to : Option Fault → Type 0 = λ fault. Partly root (present old) (unless_refused fault (present old) (created root moment fresh (present old))) (present new) in
+          let planned_part : Partly root parts.objects (present old) (with_dataset root parts (present old)) (present new) =
+          subst (λ (g : Ground). Partly root parts.objects g (with_dataset root parts g) (present new)) (now_same told) (left told (vacant_mid told)) in
+          let part : Partly root (new_parts root moment fresh).objects (present old) (created root moment fresh (present old)) (present new) =
+          subst (λ (p : Parts). Partly root p.objects (present old) (with_dataset root p (present old)) (present new)) planned planned_part in
+          let to : Option Fault → Type 0 = λ fault. Partly root (new_parts root moment fresh).objects (present old) (unless_refused fault (present old) (created root moment fresh (present old))) (present new) in
           elim (cases_Bool (stands_above (present old) root)) [
-            | inl above ↦ subst to (sym (fault_above root (present old) (vacant_old told) fits above)) (unmoved root parts (present old) (present new) (vacant_old told) (clash_free told) above part)
-            | inr above ↦ subst to (sym (fault_none root (present old) (vacant_old told) fits above))
-                (subst (λ (p : Parts). Partly root (present old) (with_dataset root p (present old)) (present new)) planned part)
+            | inl above ↦ subst to (sym (fault_above root (present old) (vacant_old told) fits above)) (unmoved root (new_parts root moment fresh) (present old) (present new) (vacant_old told) (clash_free told) above part)
+            | inr above ↦ subst to (sym (fault_none root (present old) (vacant_old told) fits above)) part
           ]

@@ -1,5 +1,5 @@
 -- What stands of a dataset, however far its writing came.
-use Rattle.std.proofs.Common.{◌≡◌, ◌≢◌, ◌⊎◌, inl, inr, ℕ, zero, suc, false, List, [], ◌∷◌, Some, refl, sym, ap, ◌∙◌}
+use Rattle.std.proofs.Common.{◌≡◌, ◌≢◌, ◌⊎◌, inl, inr, ℕ, zero, suc, false, List, [], ◌∷◌, Option, Some, refl, sym, ap, ◌∙◌}
 use Rattle.std.specs.Prelude.{slice_get, bytes_eq}
 use Rattle.std.specs.FinMap.{insert}
 use Rattle.std.proofs.lemmas.Bool.{cases_Bool, false≢true}
@@ -24,39 +24,35 @@ use Rattle.datalad_cli.proofs.Written.{with_files, with_files_other, same_outsid
 
 -- OBJECTS at their places
 module _ (repo q : List (List ℕ)) where
-  -- an object whose place is q, and whose text stands there
-  pub record IsOwned (g : Ground) : Type 0 where
-    pub object : NewObject
-    pub place : q ≡ place_in repo object
-    pub text : file_at g q ≡ Some (object_text object)
+  first_object : (x : NewObject) (objects : List NewObject) (v : Option (List ℕ)) → q ≡ place_in repo x → v ≡ Some (object_text x) → IsObject repo (x ∷ objects) q v
+  first_object x objects v is text = record { i = zero; object = x; listed = refl; place = is; bytes = text }
 
-  put_there : (g : Ground) (x : NewObject) → q ≡ place_in repo x → IsOwned (insert g (place_in repo x) (object_text x))
-  put_there g x is = record { object = x; place = is; text = file_at-insert_same g (place_in repo x) (object_text x) q is }
+  later_object : (x : NewObject) (objects : List NewObject) (v : Option (List ℕ)) → IsObject repo objects q v → IsObject repo (x ∷ objects) q v
+  later_object x objects v found = record { i = suc found.i; object = found.object; listed = found.listed; place = found.place; bytes = found.bytes }
 
-  stays_owned : (objects : List NewObject) (g : Ground) → IsOwned g → IsOwned (with_objects repo objects g)
-  stays_owned [] g owned = owned
-  stays_owned (x ∷ objects) g owned = stays_owned objects (insert g (place_in repo x) (object_text x)) (elim (cases_place q (place_in repo x)) [
-    | inl is ↦ put_there g x is
-    | inr other ↦ record { object = owned.object; place = owned.place; text = file_at-insert_other g (place_in repo x) (object_text x) q other ∙ owned.text }
-  ])
-
-  pub listed_owned : (objects : List NewObject) (g : Ground) (i : ℕ) (x : NewObject) → slice_get objects i ≡ Some x → q ≡ place_in repo x → IsOwned (with_objects repo objects g)
-  listed_owned [] g i x at is = absurd (cc at)
-  listed_owned (y ∷ objects) g zero x at is =
-      let same : y ≡ x = cc at in
-      stays_owned objects (insert g (place_in repo y) (object_text y)) (put_there g y (is ∙ ap (place_in repo) (sym same)))
-  listed_owned (y ∷ objects) g (suc i) x at is = listed_owned objects (insert g (place_in repo y) (object_text y)) i x at is
-
-  -- each place is as it was, or an object's
-  pub objects_or : (objects : List NewObject) (g : Ground) → (file_at (with_objects repo objects g) q ≡ file_at g q) ⊎ ((x : NewObject) × (q ≡ place_in repo x))
+  -- what stands where objects were put: one of them, or what stood there
+  pub objects_or : (objects : List NewObject) (g : Ground)
+      → (file_at (with_objects repo objects g) q ≡ file_at g q) ⊎ IsObject repo objects q (file_at (with_objects repo objects g) q)
   objects_or [] g = inl refl
   objects_or (x ∷ objects) g = elim (objects_or objects (insert g (place_in repo x) (object_text x))) [
     | inl same ↦ elim (cases_place q (place_in repo x)) [
-      | inl is ↦ inr (x, is)
+      | inl is ↦ inr (first_object x objects _ is (same ∙ file_at-insert_same g (place_in repo x) (object_text x) q is))
       | inr other ↦ inl (same ∙ file_at-insert_other g (place_in repo x) (object_text x) q other)
     ]
-    | inr found ↦ inr found
+    | inr found ↦ inr (later_object x objects _ found)
   ]
+
+  -- at the place of one of them stands one of them
+  pub listed_object : (objects : List NewObject) (g : Ground) (i : ℕ) (x : NewObject) → slice_get objects i ≡ Some x → q ≡ place_in repo x
+      → IsObject repo objects q (file_at (with_objects repo objects g) q)
+  listed_object [] g i x at is = absurd (cc at)
+  listed_object (y ∷ objects) g zero x at is =
+      let same : y ≡ x = cc at in
+      elim (objects_or objects (insert g (place_in repo y) (object_text y))) [
+        | inl kept ↦ let here = is ∙ ap (place_in repo) (sym same) in first_object y objects _ here (kept ∙ file_at-insert_same g (place_in repo y) (object_text y) q here)
+        | inr found ↦ later_object y objects _ found
+      ]
+  listed_object (y ∷ objects) g (suc i) x at is = later_object y objects _ (listed_object objects (insert g (place_in repo y) (object_text y)) i x at is)
 
 firm : (root : List (List ℕ)) (list : List Replacement) (q : List (List ℕ)) → AreOurs root list → in_tmp (repo_of root) q ≡ false → IsNoTmp list q
 firm root list q ours outside i r at e = false≢true (sym outside ∙ ap (in_tmp (repo_of root)) e ∙ (listed_ours root list i r ours at).tmp.side)
@@ -101,35 +97,33 @@ module _ (root : List (List ℕ)) (parts : Parts) (g : Ground) where
   stored_head : file_at Stored (head_place root) ≡ file_at g (head_place root)
   stored_head = elim (objects_or (repo_of root) (head_place root) parts.objects g) [
     | inl same ↦ same
-    | inr found ↦ absurd ((apart_object (head_place root) found.0 found.1).1 refl)
+    | inr found ↦ absurd ((apart_object (head_place root) found.object found.place).1 refl)
   ]
 
   head_before : file_at (with_files middle Stored) (head_place root) ≡ file_at g (head_place root)
   head_before = with_files_other middle Stored (head_place root) apart_head ∙ stored_head
 
   abbrev IsHere : Ground → List (List ℕ) → Type 0
-  IsHere after q = (file_at after q ≡ file_at g q) ⊎ ((file_at after q ≡ file_at Whole q) ⊎ Collide (repo_of root) q (file_at Whole q) (file_at after q))
+  IsHere after q = (file_at after q ≡ file_at g q) ⊎ ((file_at after q ≡ file_at Whole q) ⊎ Collide (repo_of root) parts.objects q (file_at Whole q) (file_at after q))
 
   -- ---- after the put
 
   one_object : (after : Ground) (q : List (List ℕ)) → IsObject (repo_of root) parts.objects q (file_at after q) → IsHere after q
-  one_object after q object =
-      let owned = listed_owned (repo_of root) q parts.objects g object.i object.object object.listed object.place in
-      let whole : file_at Whole q ≡ Some (object_text owned.object) = whole_object q object.object object.place ∙ owned.text in
-      elim (cases_Bool (bytes_eq (object_text object.object) (object_text owned.object))) [
-        | inl same ↦ inr (inl (object.bytes ∙ ap Some ((bytes_eq-Decides (object_text object.object) (object_text owned.object)).0 same) ∙ sym whole))
+  one_object after q found =
+      let owned = listed_object (repo_of root) q parts.objects g found.i found.object found.listed found.place in
+      let whole : file_at Whole q ≡ Some (object_text owned.object) = whole_object q found.object found.place ∙ owned.bytes in
+      elim (cases_Bool (bytes_eq (object_text found.object) (object_text owned.object))) [
+        | inl same ↦ inr (inl (found.bytes ∙ ap Some ((bytes_eq-Decides (object_text found.object) (object_text owned.object)).0 same) ∙ sym whole))
         | inr other ↦ inr (inr (record {
-          one = owned.object;
-          other = object.object;
-          one_place = owned.place;
-          other_place = object.place;
-          differ = λ e. false≢true (sym other ∙ ap (bytes_eq (object_text object.object)) e ∙ same_bytes (object_text object.object));
-          one_text = whole;
-          other_text = object.bytes;
+          meant = record { i = owned.i; object = owned.object; listed = owned.listed; place = owned.place; bytes = whole };
+          found = found;
+          differ = λ e.
+              let texts : object_text owned.object ≡ object_text found.object = cc (sym whole ∙ e ∙ found.bytes) in
+              false≢true (sym other ∙ ap (bytes_eq (object_text found.object)) texts ∙ same_bytes (object_text found.object));
         }))
       ]
 
-  pub partly_put : (after : Ground) → Between (λ q. in_tmp (repo_of root) q ≡ false) (IsObject (repo_of root) parts.objects) g after → Partly root g Whole after
+  pub partly_put : (after : Ground) → Between (λ q. in_tmp (repo_of root) q ≡ false) (IsObject (repo_of root) parts.objects) g after → Partly root parts.objects g Whole after
   partly_put after between = record {
     places = λ q outside. elim (between.places q outside) [
       | inl same ↦ inl same
@@ -167,12 +161,12 @@ module _ (root : List (List ℕ)) (parts : Parts) (g : Ground) where
       ∙ ap (λ (z : Replacement). Some z.bytes) (sym same)
   middle_there q (suc (suc (suc i))) r at is = absurd (cc at)
 
-  pub partly_middle : (mid after : Ground) → LessTmp (repo_of root) Stored mid → Between (IsNoTmp middle) (IsNew middle) mid after → Partly root g Whole after
+  pub partly_middle : (mid after : Ground) → LessTmp (repo_of root) Stored mid → Between (IsNoTmp middle) (IsNew middle) mid after → Partly root parts.objects g Whole after
   partly_middle mid after less between = record {
     places = λ q outside. elim (between.places q (firm root middle q (middle_ours root parts.config parts.settings parts.main) outside)) [
       | inl same ↦ elim (objects_or (repo_of root) q parts.objects g) [
         | inl kept ↦ inl (same ∙ same_outside (repo_of root) Stored mid less q outside ∙ kept)
-        | inr found ↦ inr (inl (same ∙ same_outside (repo_of root) Stored mid less q outside ∙ sym (whole_object q found.0 found.1)))
+        | inr found ↦ inr (inl (same ∙ same_outside (repo_of root) Stored mid less q outside ∙ sym (whole_object q found.object found.place)))
       ]
       | inr new ↦ inr (inl (new.bytes ∙ sym (middle_there q new.i new.r new.listed new.place)))
     ];
@@ -193,7 +187,7 @@ module _ (root : List (List ℕ)) (parts : Parts) (g : Ground) where
   whole_other : (q : List (List ℕ)) → q ≢ head_place root → file_at Whole q ≡ file_at (with_files middle Stored) q
   whole_other q other = file_at-insert_other (with_files middle Stored) (head_place root) head_text q other
 
-  pub partly_head : (mid after : Ground) → LessTmp (repo_of root) (with_files middle Stored) mid → Between (IsOther (tmp_place (repo_of root) 0)) (IsFile (head_place root) head_text) mid after → Partly root g Whole after
+  pub partly_head : (mid after : Ground) → LessTmp (repo_of root) (with_files middle Stored) mid → Between (IsOther (tmp_place (repo_of root) 0)) (IsFile (head_place root) head_text) mid after → Partly root parts.objects g Whole after
   partly_head mid after less between = record {
     places = λ q outside. elim (between.places q (away q outside)) [
       | inl same ↦ elim (cases_place q (head_place root)) [

@@ -8,7 +8,7 @@ use Rattle.file_store.specs.Tape.{Tape}
 use Rattle.file_store.specs.declared.lines.Line.{Line}
 use Rattle.file_store.specs.declared.faults.Fault.{Fault}
 use Rattle.file_store.specs.declared.faults.Trouble.{Trouble}
-use Rattle.file_store.specs.declared.faults.Trouble.TheVariants.{Refused as RefusedBy, Device as ByDevice}
+use Rattle.file_store.specs.declared.faults.Trouble.TheVariants.{Refused as RefusedBy, Device as ByDevice, NoMemory as ByMemory}
 use Rattle.object_store.specs.Held.{LessTmp}
 use Rattle.datalad_cli.specs.Layout.{repo_of}
 use Rattle.datalad_cli.specs.Words.{misread, dir_word}
@@ -18,7 +18,7 @@ use Rattle.datalad_cli.specs.Acts.{ActEnds, IsMade, IsActFault, act_ground, plac
 use Rattle.datalad_cli.specs.Answer.{Answer, Call, answer, create_answer, refused, misused, lines_text, usage_text, device_text, memory_text}
 use Rattle.datalad_cli.specs.FaultTexts.{fault_text}
 use Rattle.datalad_cli.specs.Reports.{Tapes, Heard, Says, SaysPart, TookPart, SomeRose, outcome_text, ReportEnds, UsageEnds}
-use Rattle.datalad_cli.specs.Ends.{World, Telling, root_of, repo_named, IsAnswered, IsCutOff, AnyRose, CallEnds, PlaceDecides, WordsDecide}
+use Rattle.datalad_cli.specs.Ends.{World, Telling, root_of, repo_named, objects_named, IsAnswered, IsCutOff, AnyRose, CallEnds, PlaceDecides, MaySay, usage, refusal, line, nothing, SaysSome, WordsDecide}
 use Rattle.datalad_cli.specs.declared.status.Status.{Status}
 use Rattle.datalad_cli.specs.declared.status.Status.TheVariants.{Done, Refused, Usage, NoMemory, Device, CommandFailed}
 use Rattle.datalad_cli.proofs.Agreeing.{Agree-less, Agree-same, LessTmp-same}
@@ -70,11 +70,11 @@ refused_at t call old new lines fault read act says told =
 -- CUT OFF
 cut_at : (t : Telling) (call : Call) (old new : World) (lines : List Line) (outcome : Result (Unit {0}) Trouble) (failure : List ℕ)
     → misread call.words ≡ None → ActEnds t.files (root_of call) call.moment call.fresh lines old.drive new.drive outcome
-    → (IsTrue t.files → Partly (place_or_top (root_of call)) (present old.drive) (act_ground (root_of call) call.moment call.fresh (present old.drive)) (present new.drive))
+    → (IsTrue t.files → Partly (place_or_top (root_of call)) (objects_named call) (present old.drive) (act_ground (root_of call) call.moment call.fresh (present old.drive)) (present new.drive))
     → SaysPart t.heard (lines_text lines) (outcome_text outcome) failure old.tapes new.tapes → IsTrue t.files
     → IsCutOff t call (answer call (present old.drive)) failure old new
 cut_at t call old new lines outcome failure read act left parts told = record {
-  stands = subst (λ (b : Ground). Partly (place_or_top (root_of call)) (present old.drive) b (present new.drive)) (sym (answer_leaves call (present old.drive) read)) (left told);
+  stands = subst (λ (b : Ground). Partly (place_or_top (root_of call)) (objects_named call) (present old.drive) b (present new.drive)) (sym (answer_leaves call (present old.drive) read)) (left told);
   parts = answer_parts t.files t.heard call old.drive new.drive lines failure old.tapes new.tapes outcome read told act parts;
 }
 
@@ -93,7 +93,7 @@ rose_at t call old new lines outcome act why = ⊎_elim
 -- the end of a call whose words have a reading
 pub call_ends : (t : Telling) (call : Call) (old new : World) (lines : List Line) (outcome : Result (Unit {0}) Trouble) (status : Status)
     → misread call.words ≡ None → ActEnds t.files (root_of call) call.moment call.fresh lines old.drive new.drive outcome
-    → (IsTrue t.files → Partly (place_or_top (root_of call)) (present old.drive) (act_ground (root_of call) call.moment call.fresh (present old.drive)) (present new.drive))
+    → (IsTrue t.files → Partly (place_or_top (root_of call)) (objects_named call) (present old.drive) (act_ground (root_of call) call.moment call.fresh (present old.drive)) (present new.drive))
     → ReportEnds t.heard lines outcome old.tapes new.tapes status → CallEnds t call old new status
 call_ends t call old new lines outcome Done read act left rep =
     done_at t call old new lines (root_of call) read refl (act_as t call old new lines outcome (Ok tt) rep.0 act) rep.1
@@ -116,6 +116,22 @@ place_decides : (call : Call) (root : Option (List (List ℕ))) (fault : Fault) 
 place_decides call None fault at may = inl (may, at)
 place_decides call (Some root) fault at may = inr (may, λ none. absurd (cc (sym at ∙ none)))
 
+made_says : (t : Telling) (call : Call) (old new : World) (lines : List Line) (root : Option (List (List ℕ)))
+    → misread call.words ≡ None → root_of call ≡ root → IsMade t.files root call.moment call.fresh lines old.drive new.drive → MaySay call (lines_text lines) []
+made_says t call old new lines None read at made = absurd made
+made_says t call old new lines (Some root) read at made = subst (λ (ls : List Line). MaySay call (lines_text ls) []) (sym made.0) (line root read at)
+
+no_lines : (call : Call) (lines : List Line) (err : List ℕ) → lines ≡ [] → MaySay call [] err → MaySay call (lines_text lines) err
+no_lines call lines err none said = subst (λ (ls : List Line). MaySay call (lines_text ls) err) (sym none) said
+
+-- the texts of an outcome
+may_say : (t : Telling) (call : Call) (old new : World) (lines : List Line) (outcome : Result (Unit {0}) Trouble) → misread call.words ≡ None
+    → ActEnds t.files (root_of call) call.moment call.fresh lines old.drive new.drive outcome → MaySay call (lines_text lines) (outcome_text outcome)
+may_say t call old new lines (Ok _) read act = made_says t call old new lines (root_of call) read refl act
+may_say t call old new lines (Err (RefusedBy fault)) read act = no_lines call lines (fault_text fault) act.1 (refusal fault read (place_decides call (root_of call) fault refl act.0))
+may_say t call old new lines (Err ByDevice) read act = no_lines call lines [] act.0 (nothing read)
+may_say t call old new lines (Err ByMemory) read act = no_lines call lines [] act (nothing read)
+
 pub words_decide : (t : Telling) (call : Call) (old new : World) (lines : List Line) (outcome : Result (Unit {0}) Trouble) (status : Status)
     → misread call.words ≡ None → ActEnds t.files (root_of call) call.moment call.fresh lines old.drive new.drive outcome
     → ReportEnds t.heard lines outcome old.tapes new.tapes status → WordsDecide t call old new status
@@ -124,8 +140,8 @@ words_decide t call old new lines outcome Done read act rep =
 words_decide t call old new lines outcome (Refused fault) read act rep =
     let known = act_as t call old new lines outcome (Err (RefusedBy fault)) rep.0 act in
     (read, place_decides call (root_of call) fault refl known.0, said_lines t.heard (fault_text fault) old.tapes new.tapes lines [] known.1 rep.1)
-words_decide t call old new lines outcome Device read act rep = tt
-words_decide t call old new lines outcome NoMemory read act rep = tt
+words_decide t call old new lines outcome Device read act rep = (lines_text lines, outcome_text outcome, may_say t call old new lines outcome read act, rep.1)
+words_decide t call old new lines outcome NoMemory read act rep = (lines_text lines, outcome_text outcome, may_say t call old new lines outcome read act, rep)
 words_decide t call old new lines outcome (Usage at) read act rep = absurd rep
 words_decide t call old new lines outcome (CommandFailed got) read act rep = absurd rep
 
@@ -133,6 +149,10 @@ words_decide t call old new lines outcome (CommandFailed got) read act rep = abs
 says_usage : (heard : Heard) (o e e' : Tape) (at : ℕ) → (IsTrue heard.err → e'.bytes ≡ e.bytes ++ usage_text at)
     → Says heard [] (usage_text at) (record { out = o; err = e }) (record { out = o; err = e' })
 says_usage heard o e e' at said = record { out_has = λ _. sym (append-nil o.bytes); err_has = said }
+
+cut_says : (heard : Heard) (o e e' : Tape) (at : ℕ) (failure : List ℕ) → (IsTrue heard.err → TookPart e e' (usage_text at) ⊎ TookPart e e' failure)
+    → SaysPart heard [] (usage_text at) failure (record { out = o; err = e }) (record { out = o; err = e' })
+cut_says heard o e e' at failure said = record { out_part = λ _. (0, omega arith, sym (append-nil o.bytes)); err_part = said }
 
 cut_usage : (t : Telling) (call : Call) (d : Drive) (o e e' : Tape) (at : ℕ) (failure : List ℕ) → misread call.words ≡ Some at
     → (IsTrue t.heard.err → TookPart e e' (usage_text at) ⊎ TookPart e e' failure)
@@ -142,7 +162,7 @@ cut_usage t call d o e e' at failure read said =
     let new : World = record { drive = d; tapes = record { out = o; err = e' } } in
     subst (λ (x : Answer). IsCutOff t call x failure old new) (sym (answer_misused call (present d) at read)) (record {
       stands = record { places = λ q h. inl refl; head_last = inl refl };
-      parts = record { out_part = λ _. (0, omega arith, sym (append-nil o.bytes)); err_part = said };
+      parts = cut_says t.heard o e e' at failure said;
     })
 
 pub usage_ends : (t : Telling) (call : Call) (d : Drive) (o e e' : Tape) (at : ℕ) (status : Status) → misread call.words ≡ Some at → UsageEnds t.heard.err at e e' status
@@ -171,8 +191,8 @@ usage_words t call d o e e' at (Usage n) read said = (
   subst (λ (m : ℕ). Says t.heard [] (usage_text m) (record { out = o; err = e }) (record { out = o; err = e' })) (sym said.0)
       (says_usage t.heard o e e' at said.1),
 )
-usage_words t call d o e e' at Device read said = tt
-usage_words t call d o e e' at NoMemory read said = tt
+usage_words t call d o e e' at Device read said = ([], usage_text at, usage at read, cut_says t.heard o e e' at device_text said.1)
+usage_words t call d o e e' at NoMemory read said = ([], usage_text at, usage at read, cut_says t.heard o e e' at memory_text said)
 usage_words t call d o e e' at Done read said = absurd said
 usage_words t call d o e e' at (Refused fault) read said = absurd said
 usage_words t call d o e e' at (CommandFailed got) read said = absurd said

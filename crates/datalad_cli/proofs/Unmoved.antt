@@ -35,7 +35,7 @@ module _ (root : List (List ℕ)) (parts : Parts) (g : Ground) (q : List (List �
   stored_or : IsElsewhere (with_objects (repo_of root) parts.objects g)
   stored_or = elim (objects_or (repo_of root) q parts.objects g) [
     | inl same ↦ inl same
-    | inr found ↦ let below = part_above root _ false (object_part root found.0) in inr (below.0, below.1, found.1 ∙ below.2)
+    | inr found ↦ let below = part_above root _ false (object_part root found.object) in inr (below.0, below.1, found.place ∙ below.2)
   ]
 
   -- a dataset changes nothing but below its root
@@ -46,7 +46,7 @@ module _ (root : List (List ℕ)) (parts : Parts) (g : Ground) (q : List (List �
       (one_more _ (settings_place root) parts.settings (part_above root _ false (settings_part root))
       (one_more _ (config_place root) parts.config (part_above root _ false (config_part root)) stored_or)))
 
-module _ (root : List (List ℕ)) (parts : Parts) (g after : Ground) (vacant : IsVacant root g) (clash_free : IsGround after) (above : stands_above g root ≡ true) (part : Partly root g (with_dataset root parts g) after) where
+module _ (root : List (List ℕ)) (parts : Parts) (g after : Ground) (vacant : IsVacant root g) (clash_free : IsGround after) (above : stands_above g root ≡ true) (part : Partly root parts.objects g (with_dataset root parts g) after) where
   over : List (List ℕ)
   over = (stands_above-file g root above).0
 
@@ -69,7 +69,7 @@ module _ (root : List (List ℕ)) (parts : Parts) (g after : Ground) (vacant : I
       | inl same ↦ ap is_some (whole ∙ same) ∙ over_stood
       | inr below ↦ absurd (above-one over root over_root below)
     ]
-    | inr (inr collide) ↦ ap is_some collide.other_text
+    | inr (inr collide) ↦ ap is_some collide.found.bytes
   ]
 
   none_below : (q : List (List ℕ)) → IsAbove root q → IsSome (file_at after q) → ⊥
@@ -85,8 +85,8 @@ module _ (root : List (List ℕ)) (parts : Parts) (g after : Ground) (vacant : I
         | inr gone ↦ stands-none after q gone ∙ sym (free_at root g q vacant below)
       ]
     ]
-    | inr (inr collide) ↦ absurd (none_below q (let below = part_above root _ false (object_part root collide.one) in (below.0, below.1, collide.one_place ∙ below.2)) (ap is_some collide.other_text))
+    | inr (inr collide) ↦ absurd (none_below q (let below = part_above root _ false (object_part root collide.found.object) in (below.0, below.1, collide.found.place ∙ below.2)) (ap is_some collide.found.bytes))
   ]
 
-  pub unmoved : Partly root g g after
+  pub unmoved : Partly root parts.objects g g after
   unmoved = record { places = λ q outside. inl (stays q outside); head_last = inl (stays (head_place root) (head_part root).side) }

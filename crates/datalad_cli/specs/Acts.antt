@@ -11,7 +11,8 @@ use Rattle.file_store.specs.declared.faults.Trouble.{Trouble}
 use Rattle.file_store.specs.declared.faults.Trouble.TheVariants.{Refused, Device, NoMemory}
 use Rattle.object_store.specs.Held.{LessTmp}
 use Rattle.datalad_cli.specs.Layout.{repo_of}
-use Rattle.datalad_cli.specs.Created.{created}
+use Rattle.object_store.specs.declared.objects.NewObject.{NewObject}
+use Rattle.datalad_cli.specs.Created.{created, new_parts}
 use Rattle.datalad_cli.specs.Creating.{create_fault, created_line, created_or_not, IsCreateFault}
 
 abbrev pub place_or_top : Option (List (List ℕ)) → List (List ℕ)
@@ -27,6 +28,11 @@ act_fault (Some root) g = create_fault root g
 abbrev pub act_ground : Option (List (List ℕ)) → ℕ → List ℕ → Ground → Ground
 act_ground None moment fresh g = g
 act_ground (Some root) moment fresh g = created_or_not root moment fresh g
+
+-- the objects that it puts
+abbrev pub act_objects : Option (List (List ℕ)) → ℕ → List ℕ → List NewObject
+act_objects None moment fresh = []
+act_objects (Some root) moment fresh = (new_parts root moment fresh).objects
 
 -- the faults that it may answer, by where the word leads
 abbrev pub IsActFault : Option (List (List ℕ)) → Fault → Type 0

@@ -12,9 +12,9 @@ use Rattle.file_store.specs.declared.faults.Trouble.{Trouble}
 use Rattle.file_store.specs.declared.faults.Trouble.TheVariants.{Refused, Device, NoMemory}
 use Rattle.git_objects.specs.declared.ids.Id.{Id}
 use Rattle.object_store.specs.Layout.{tmp_place, in_tmp}
-use Rattle.object_store.specs.Held.{place_in, object_text, LessTmp}
+use Rattle.object_store.specs.Held.{LessTmp}
 use Rattle.object_store.specs.declared.objects.NewObject.{NewObject}
-use Rattle.object_store.specs.Puts.{repo_limit, large}
+use Rattle.object_store.specs.Puts.{repo_limit, large, IsObject}
 use Rattle.datalad_cli.specs.Layout.{repo_of, head_place}
 use Rattle.datalad_cli.specs.Created.{created, config_text, first_id}
 
@@ -46,22 +46,18 @@ pub data IsCreateFault : Fault → Type 0 where
   too_large : (path : List ℕ) (size : ℕ) → IsCreateFault (TooLarge path size)
   blocked : (place : List (List ℕ)) → IsCreateFault (Blocked place)
 
--- A collision of SHA-1: of two objects that have one place and other texts, the first was to stand there and the second
+-- A collision of SHA-1: of two of the objects that have one place and other texts, one was to stand there and the other
 -- stands.
-pub record Collide (repo q : List (List ℕ)) (was_to stands : Option (List ℕ)) : Type 0 where
-  pub one : NewObject
-  pub other : NewObject
-  pub one_place : q ≡ place_in repo one
-  pub other_place : q ≡ place_in repo other
-  pub differ : object_text one ≢ object_text other
-  pub one_text : was_to ≡ Some (object_text one)
-  pub other_text : stands ≡ Some (object_text other)
+pub record Collide (repo : List (List ℕ)) (objects : List NewObject) (q : List (List ℕ)) (was_to stands : Option (List ℕ)) : Type 0 where
+  pub meant : IsObject repo objects q was_to
+  pub found : IsObject repo objects q stands
+  pub differ : was_to ≢ stands
 
 -- Of a ground that was to become another one, what stands: at each place outside the unfinished writes what it had or
--- what it was to have, but for a collision of SHA-1; and HEAD has changed only where all the rest has.
-pub record Partly (root : List (List ℕ)) (a b after : Ground) : Type 0 where
+-- what it was to have, but for a collision of SHA-1 among these objects; and HEAD has changed only where all the rest has.
+pub record Partly (root : List (List ℕ)) (objects : List NewObject) (a b after : Ground) : Type 0 where
   pub places : (q : List (List ℕ)) → in_tmp (repo_of root) q ≡ false
-      → (file_at after q ≡ file_at a q) ⊎ ((file_at after q ≡ file_at b q) ⊎ Collide (repo_of root) q (file_at b q) (file_at after q))
+      → (file_at after q ≡ file_at a q) ⊎ ((file_at after q ≡ file_at b q) ⊎ Collide (repo_of root) objects q (file_at b q) (file_at after q))
   pub head_last : (file_at after (head_place root) ≡ file_at a (head_place root))
       ⊎ ((q : List (List ℕ)) → in_tmp (repo_of root) q ≡ false → file_at after q ≡ file_at b q)
 

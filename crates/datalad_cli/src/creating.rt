@@ -5,24 +5,20 @@
 ghost use Rattle.std.specs.Prelude.{◌≡◌, ◌≤◌, ◌++◌, length, IsTrue, IfOk, string_bytes};
 ghost use Rattle.places.specs.Names.{text_of};
 ghost use Rattle.file_store.specs.Ends.{present};
-ghost use Rattle.file_store.specs.declared.faults.Fault.TheVariants.{TooLarge};
 ghost use Rattle.object_store.specs.Layout.{tmp_place as tmp_of};
 ghost use Rattle.datalad_cli.specs.Layout.{repo_of};
-ghost use Rattle.datalad_cli.specs.Created.{with_dataset};
+ghost use Rattle.datalad_cli.specs.Created.{new_parts, with_dataset};
 ghost use Rattle.datalad_cli.specs.Creating.{created_line, created_or_not, Partly, CreateEnds};
 ghost use Rattle.datalad_cli.specs.Plans.{parts_of};
 ghost use Rattle.datalad_cli.specs.Writing.{middle_files, IsVacant, DatasetEnds};
 
-use crate::first::{Plan, head_file, make_plan};
+use crate::first::{Plan, head_file, make_plan, text};
 use file_store::{
-    Bytes, Fault, Files, Kind, Line, Place, Replacement, Text, Trouble, replace, replace_all,
+    Bytes, Fault, Files, Kind, Line, Place, Replacement, Trouble, replace, replace_all,
 };
 use git_objects::Id;
-use object_store::{put_all, tmp_place};
+use object_store::{REPO_LIMIT, put_all, tmp_place, too_large};
 use std::alloc::{AllocError, Global};
-
-/// The longest text of a repository's place in which anything is written, in bytes.
-const REPO_LIMIT: usize = 3584;
 
 // The text of the place of a dataset's repository, which may be too long for a place.
 fn repo_text(alloc: Global, root: &Place) -> Result<String, AllocError>
@@ -31,26 +27,15 @@ fn repo_text(alloc: Global, root: &Place) -> Result<String, AllocError>
     root.joined(alloc, ".dlrepo")
 }
 
-// The refusal of a repository whose place has this text, too long to write in.
-fn too_large(text: String) -> Fault
-    ensures { result ≡ TooLarge (string_bytes text) (length (string_bytes text)) }
-{
-    let size = text.len() as u64;
-    Fault::TooLarge {
-        path: Text::new(text),
-        size,
-    }
-}
-
 // The result line of a dataset that was made.
 fn line_of(alloc: Global, root: &Place) -> Result<Line, AllocError>
     ensures { IfOk result (λ line. line ≡ created_line root.now) }
 {
     Ok(Line {
-        action: Text::new(String::from_str(alloc, "create")?),
-        status: Text::new(String::from_str(alloc, "ok")?),
-        path: Text::new(String::from_str(alloc, root.as_str())?),
-        kind: Text::new(String::from_str(alloc, "dataset")?),
+        action: text(alloc, "create")?,
+        status: text(alloc, "ok")?,
+        path: text(alloc, root.as_str())?,
+        kind: text(alloc, "dataset")?,
     })
 }
 
@@ -105,7 +90,7 @@ fn write_dataset<F: Files>(
     requires fits { length (text_of repo.now) ≤ 3584 }
     ensures later { (F.drive files.old).faults ≤ (F.drive files.new).faults }
     ensures ends { DatasetEnds F.tells root.now (parts_of plan) (F.drive files.old) (F.drive files.new) result }
-    ensures left { IsTrue F.tells → IsVacant root.now (present (F.drive files.old)) → Partly root.now (present (F.drive files.old)) (with_dataset root.now (parts_of plan) (present (F.drive files.old))) (present (F.drive files.new)) }
+    ensures left { IsTrue F.tells → IsVacant root.now (present (F.drive files.old)) → Partly root.now (parts_of plan).objects (present (F.drive files.old)) (with_dataset root.now (parts_of plan) (present (F.drive files.old))) (present (F.drive files.new)) }
 {
     let middle = middle(alloc, root, repo, plan.config, plan.settings, plan.main)?;
     let tmp = tmp_place(alloc, repo, 0)?;
@@ -133,8 +118,8 @@ pub fn create<F: Files>(
     ensures ends { CreateEnds F.tells place.now moment fresh.now lines.old.items lines.new.items (F.drive files.old) (F.drive files.new) result }
 
     // Whatever the answer, each place outside the unfinished writes has what it had or what the dataset has there, but for
-    // a collision of SHA-1, and HEAD only with all the rest.
-    ensures left { IsTrue F.tells → Partly place.now (present (F.drive files.old)) (created_or_not place.now moment fresh.now (present (F.drive files.old))) (present (F.drive files.new)) }
+    // a collision of SHA-1 among its objects, and HEAD only with all the rest.
+    ensures left { IsTrue F.tells → Partly place.now (new_parts place.now moment fresh.now).objects (present (F.drive files.old)) (created_or_not place.now moment fresh.now (present (F.drive files.old))) (present (F.drive files.new)) }
 {
     if files.kind(alloc, place)? != Kind::Absent {
         let place = place.try_clone(alloc)?;

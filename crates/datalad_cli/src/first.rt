@@ -29,7 +29,8 @@ struct FirstCommit {
     id: Id,
 }
 
-fn text(alloc: Global, value: &str) -> Result<Text, AllocError>
+/// A text of its own.
+pub(crate) fn text(alloc: Global, value: &str) -> Result<Text, AllocError>
     ensures { IfOk result (λ text. text ≡ value.now) }
 {
     Ok(Text::new(String::from_str(alloc, value)?))

@@ -1,7 +1,7 @@
 // The top call: one command, from its words to its two texts and its status.
 ghost use Rattle.std.specs.Prelude.{◌≡◌, ◌≤◌, [], map, string_bytes, IsTrue, IfOk};
 ghost use Rattle.file_store.specs.Ends.{present};
-ghost use Rattle.datalad_cli.specs.Acts.{ActEnds, act_ground, place_or_top};
+ghost use Rattle.datalad_cli.specs.Acts.{ActEnds, act_ground, act_objects, place_or_top};
 ghost use Rattle.datalad_cli.specs.Answer.{lines_text, usage_text};
 ghost use Rattle.datalad_cli.specs.Creating.{Partly};
 ghost use Rattle.datalad_cli.specs.Ends.{CallEnds, WordsDecide};
@@ -28,7 +28,7 @@ fn act<F: Files>(
     requires { lines.old.items ≡ [] }
     ensures later { (F.drive files.old).faults ≤ (F.drive files.new).faults }
     ensures ends { ActEnds F.tells (leads cwd.now word.now) moment fresh.now lines.new.items (F.drive files.old) (F.drive files.new) result }
-    ensures left { IsTrue F.tells → Partly (place_or_top (leads cwd.now word.now)) (present (F.drive files.old)) (act_ground (leads cwd.now word.now) moment fresh.now (present (F.drive files.old))) (present (F.drive files.new)) }
+    ensures left { IsTrue F.tells → Partly (place_or_top (leads cwd.now word.now)) (act_objects (leads cwd.now word.now) moment fresh.now) (present (F.drive files.old)) (act_ground (leads cwd.now word.now) moment fresh.now (present (F.drive files.old))) (present (F.drive files.new)) }
 {
     match root_of(alloc, cwd, word)? {
         None => Err(Trouble::Refused(Fault::BadPath { at: 1 })),

@@ -1,3 +1,4 @@
+pub mod Ascending
 pub mod Images
 pub mod Moments
 pub mod OldOrNew

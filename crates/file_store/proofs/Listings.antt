@@ -1,5 +1,5 @@
 -- What is seen under each name, once all places were, is what stands there.
-use Rattle.std.proofs.Common.{◌≡◌, inl, inr, ℕ, Bool, true, false, cond, not, ◌&&◌, List, [], ◌∷◌, ◌++◌, fold, Option, Some, None, Result, Ok, Err, append_assoc, refl, sym, ap, ◌∙◌, subst}
+use Rattle.std.proofs.Common.{◌≡◌, inl, inr, ℕ, Bool, true, false, IsTrue, cond, not, ◌&&◌, List, [], ◌∷◌, ◌++◌, fold, Option, Some, None, Result, Ok, Err, append_assoc, refl, sym, ap, ◌∙◌, subst}
 use Rattle.std.specs.Prelude.{◌==◌, Vec, IsSome, is_some, String, string_bytes, bytes_eq, nat_lt, nat_le, length, unwrap_or, IfOk}
 use Rattle.std.specs.declared.alloc.Global.{Global}
 use Rattle.std.specs.declared.cmp.Ordering.TheVariants.{Less}
@@ -28,6 +28,7 @@ use Rattle.file_store.specs.declared.kinds.Kind.{Kind}
 use Rattle.file_store.specs.declared.kinds.Kind.TheVariants.{Absent, File, Dir}
 use Rattle.file_store.specs.declared.kinds.Item.{Item}
 use Rattle.file_store.proofs.Stored.{Entries, any-entries, stands_below-any}
+use Rattle.file_store.proofs.Ascending.{are_listed}
 use Rattle.file_store.proofs.Named.{name_in}
 
 -- WHAT IS SEEN of a name: nothing, a file, or a directory
@@ -159,23 +160,14 @@ all_named (k ∷ ks) named =
         by true = refl
         by false = some
 
-after_all : (k : String Global) (ks : Kinds) → AllByRecursion (λ y. string_cmp k y ≡ Less) (keys_of ks) → AllByRecursion (λ t. slice_cmp nat_cmp (string_bytes k) t ≡ Less) (names_in (as_items ks))
-after_all k [] less = tt
-after_all k (l ∷ ks) less = (less.0, after_all k ks less.1)
-
-ascends : (ks : Kinds) → IsStrictlySortedBy string_cmp (keys_of ks) → IsStrictlySortedBy (slice_cmp nat_cmp) (names_in (as_items ks))
-unfolding IsStrictlySortedBy
-ascends [] sorted = tt
-ascends (k ∷ ks) sorted = (after_all k.0 ks sorted.0, ascends ks sorted.1)
-
 -- THE LISTING
 pub listing : (es : Entries) (root : List (List ℕ)) (kinds : BTreeMap (String Global) Kind) (items : List Item) → ((name : List ℕ) → get_by_text kinds name ≡ seen_among root name (keys_of es))
     → AllByRecursion IsPlace (keys_of es) → IsGround (ground_of es) → items ≡ as_items kinds.entries → IsOrdered string_cmp kinds → AreListed items × IsListing (ground_of es) root items
 listing es root kinds items seen_all places clash_free is ordered = (
-  subst AreListed (sym is) (record {
-    names = all_named kinds.entries (λ name some. seen_named root name (keys_of es) places (sym (ap is_some (seen_all name)) ∙ some));
-    ascending = ascends kinds.entries ordered;
-  }),
+  are_listed kinds items is
+      (subst (λ (l : List Item). IsTrue (list_all is_item_name (names_in l))) (sym is)
+      (all_named kinds.entries (λ name some. seen_named root name (keys_of es) places (sym (ap is_some (seen_all name)) ∙ some))))
+      ordered,
   λ name. ap (listed_kind name) is ∙ listed-lookup kinds.entries name ∙ ap (λ o. unwrap_or o Absent) (seen_all name) ∙ seen-kind_at root name es clash_free,
 )
 

@@ -10,4 +10,4 @@ mod tests;
 
 pub use layout::{object_place, tmp_place};
 pub use objects::NewObject;
-pub use putting::put_all;
+pub use putting::{REPO_LIMIT, put_all, too_large};

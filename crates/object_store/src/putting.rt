@@ -2,7 +2,7 @@
 //
 // Every place is looked at before anything is written; then what is missing goes by temporary places, all of it at the
 // price of two barriers. An object's file is never written in place, so a reader sees none of it or all.
-ghost use Rattle.std.specs.Prelude.{◌≡◌, ◌≤◌, IsTrue, false, length, IfOk};
+ghost use Rattle.std.specs.Prelude.{◌≡◌, ◌≤◌, IsTrue, false, length, string_bytes, IfOk};
 ghost use Rattle.places.specs.Names.{text_of};
 ghost use Rattle.file_store.specs.Ends.{present};
 ghost use Rattle.file_store.specs.Replaced.{Between};
@@ -16,20 +16,27 @@ use file_store::{Fault, Files, Place, Text, Trouble, replace_all};
 use std::alloc::{AllocError, Global};
 
 /// The longest text of a repository's place in which anything is written, in bytes.
-const REPO_LIMIT: usize = 3584;
+pub const REPO_LIMIT: usize = 3584;
 
 /// The longest one below which an object has a place.
 const OBJECT_LIMIT: usize = 4046;
 
-/// The refusal of a repository whose place is too long to write in.
-pub fn too_large(alloc: Global, repo: &Place) -> Result<Fault, AllocError>
+/// The refusal of a repository whose place has this text, too long to write in.
+pub fn too_large(text: String) -> Fault
+    ensures { result ≡ TooLarge (string_bytes text) (length (string_bytes text)) }
+{
+    let size = text.len() as u64;
+    Fault::TooLarge {
+        path: Text::new(text),
+        size,
+    }
+}
+
+// The same, of a place.
+fn repo_too_large(alloc: Global, repo: &Place) -> Result<Fault, AllocError>
     ensures { IfOk result (λ fault. fault ≡ TooLarge (text_of repo.now) (length (text_of repo.now))) }
 {
-    let text = repo.as_str();
-    Ok(Fault::TooLarge {
-        path: Text::new(String::from_str(alloc, text)?),
-        size: text.len() as u64,
-    })
+    Ok(too_large(String::from_str(alloc, repo.as_str())?))
 }
 
 /// Puts the objects that aren't held.
@@ -51,14 +58,14 @@ pub fn put_all<F: Files>(
         return Ok(());
     }
     if OBJECT_LIMIT < repo.as_str().len() {
-        return Err(Trouble::Refused(too_large(alloc, repo)?));
+        return Err(Trouble::Refused(repo_too_large(alloc, repo)?));
     }
     let list = missing(alloc, files, repo, objects)?;
     if list.is_empty() {
         return Ok(());
     }
     if REPO_LIMIT < repo.as_str().len() {
-        return Err(Trouble::Refused(too_large(alloc, repo)?));
+        return Err(Trouble::Refused(repo_too_large(alloc, repo)?));
     }
     replace_all(alloc, files, list.as_slice())?;
     Ok(())

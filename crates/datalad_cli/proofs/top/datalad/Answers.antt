@@ -1,7 +1,7 @@
 use Rattle.std.proofs.Common.{◌∙◌, sym, subst, List, ℕ, map, string_bytes, IsTrue}
 use Rattle.file_store.specs.Ends.{present}
 use Rattle.file_store.specs.declared.lines.Line.{Line}
-use Rattle.datalad_cli.specs.Acts.{ActEnds, act_ground, place_or_top}
+use Rattle.datalad_cli.specs.Acts.{ActEnds, act_ground, act_objects, place_or_top}
 use Rattle.datalad_cli.specs.Answer.{Call}
 use Rattle.datalad_cli.specs.Creating.{Partly}
 use Rattle.datalad_cli.specs.Ends.{Telling, World}
@@ -35,7 +35,7 @@ returns-clause-ends g c =
     call_ends t call old new c.act-outcome.new.lines.items c.act-outcome.result c.report.result (sym c.misread_at.ensures ∙ c.in_default.is)
     (subst (λ (w : List ℕ). ActEnds t.files (leads call.cwd w) call.moment call.fresh c.act-outcome.new.lines.items old.drive new.drive c.act-outcome.result) c.dir_of.ensures c.act-outcome.ensures.ends)
     (subst (λ (w : List ℕ).
-    IsTrue t.files → Partly (place_or_top (leads call.cwd w)) (present old.drive) (act_ground (leads call.cwd w) call.moment call.fresh (present old.drive)) (present new.drive))
+    IsTrue t.files → Partly (place_or_top (leads call.cwd w)) (act_objects (leads call.cwd w) call.moment call.fresh) (present old.drive) (act_ground (leads call.cwd w) call.moment call.fresh (present old.drive)) (present new.drive))
     c.dir_of.ensures c.act-outcome.ensures.left)
     (subst (λ (ls : List Line). ReportEnds t.heard ls c.act-outcome.result old.tapes new.tapes c.report.result) c.as_slice.ensures.value c.report.ensures.ends)
 

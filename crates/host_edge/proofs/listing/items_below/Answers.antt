@@ -1,4 +1,4 @@
-use Rattle.host_edge.proofs.Ascending.{are_listed}
+use Rattle.file_store.proofs.Ascending.{are_listed}
 use Rattle.host_edge.proofs.listing.items_below.Goals as goal
 
 pub returns : goal.returns

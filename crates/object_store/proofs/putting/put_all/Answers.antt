@@ -12,7 +12,7 @@ pub returns-then-as_str-gt-OBJECT_LIMIT-clause-ends : goal.returns-then-as_str-g
 returns-then-as_str-gt-OBJECT_LIMIT-clause-ends g c =
     let drive = g.F.Files.drive in
     let long : 4046 < length (text_of c.args.repo.now) = search rules in
-    put_too_large g.F.Files.tells c.args.repo.now c.args.objects.now (drive c.args.files.now) (drive c.args.files.now) (sym c.if-is_empty.ensures) c.in_ok-too_large.field-0 long c.in_ok-too_large.ensures (λ t. refl)
+    put_too_large g.F.Files.tells c.args.repo.now c.args.objects.now (drive c.args.files.now) (drive c.args.files.now) (sym c.if-is_empty.ensures) c.in_ok-repo_too_large.field-0 long c.in_ok-repo_too_large.ensures (λ t. refl)
 
 pub returns-in_err-list-clause-ends : goal.returns-in_err-list-clause-ends
 returns-in_err-list-clause-ends g c =
@@ -34,7 +34,7 @@ returns-then-as_str-gt-REPO_LIMIT-clause-ends g c =
     let fits : length (text_of c.args.repo.now) ≤ 4046 = search rules in
     let filled : (length c.in_ok-list.list.items == 0) ≡ false = search rules in
     let long : 3584 < length (text_of c.args.repo.now) = search rules in
-    put_limit g.F.Files.tells c.args.repo.now c.args.objects.now (drive c.args.files.now) (drive c.missing.new.files) (sym c.if-is_empty.ensures) fits c.in_ok-list.list c.in_ok-list.ensures.ends filled c.in_ok-too_large-2.field-0 long c.in_ok-too_large-2.ensures
+    put_limit g.F.Files.tells c.args.repo.now c.args.objects.now (drive c.args.files.now) (drive c.missing.new.files) (sym c.if-is_empty.ensures) fits c.in_ok-list.list c.in_ok-list.ensures.ends filled c.in_ok-repo_too_large-2.field-0 long c.in_ok-repo_too_large-2.ensures
 
 pub replace_all-requires : goal.replace_all-requires
 replace_all-requires g c =

@@ -1,0 +1,129 @@
+// What a call begins with: words, working directory, clock and random bytes, or why the host gave none.
+ghost use Rattle.std.specs.Prelude.{◌≡◌, ◌≤◌, ◌*◌, ◌+◌, ◌^◌, ◌<◌, map, drop, string_bytes, IfOk, IfErr};
+ghost use Rattle.std.specs.Time.{system_time_nanos};
+ghost use Rattle.places.specs.Names.{IsText, IsPlace, text_of};
+ghost use Rattle.datalad.specs.Starts.{IsSeconds};
+
+use file_store::{Place, PlaceErr};
+use std::alloc::{AllocError, Global};
+use std::env::{self, Args};
+use std::io::{self, ErrorKind};
+use std::random::RandomSource;
+use std::time::SystemTime;
+
+/// The words after the program's name, the working directory, the seconds since 1970, and 16 random bytes.
+#[derive(Drop)]
+pub(crate) struct Start {
+    pub(crate) words: Vec<String>,
+    pub(crate) cwd: Place,
+    pub(crate) moment: u64,
+    pub(crate) fresh: [u8; 16],
+}
+
+/// Why the program can't begin: the host gave something out of form or nothing, or memory was wanting.
+#[derive(Debug, Drop)]
+pub(crate) enum Failure {
+    Host,
+    NoMemory,
+}
+
+impl From<AllocError> for Failure {
+    ghost use Rattle.datalad.specs.declared.start.Failure.TheVariants.{NoMemory};
+
+    ghost from_gives = { λ _ failure. failure ≡ NoMemory };
+
+    fn from(_: AllocError) -> Self {
+        Failure::NoMemory
+    }
+}
+
+impl From<io::Error> for Failure {
+    fn from(e: io::Error) -> Self {
+        if e.kind() == ErrorKind::OutOfMemory {
+            return Failure::NoMemory;
+        }
+        Failure::Host
+    }
+}
+
+impl Failure {
+    ghost use Rattle.datalad_cli.specs.Codes.{code_of};
+    ghost use Rattle.datalad.specs.Starts.{ending, ending_text};
+
+    /// The exit status.
+    pub(crate) fn code(&self) -> u8
+        ensures { result ≡ code_of (ending self.now) }
+    {
+        match self {
+            Failure::Host => 4,
+            Failure::NoMemory => 3,
+        }
+    }
+
+    /// What is said of it.
+    pub(crate) fn text(&self) -> &'static str
+        ensures { result.now ≡ ending_text self.now }
+    {
+        match self {
+            Failure::Host => "datalad: a device failed\n",
+            Failure::NoMemory => "datalad: no memory\n",
+        }
+    }
+}
+
+// All words but the first, which is the program's name.
+fn after_the_name(alloc: Global, all: Args) -> Result<Vec<String>, AllocError>
+    ensures { IfOk result (λ words. words.items ≡ drop 1 all.items) }
+{
+    let mut words = Vec::new(alloc);
+    for word in all.skip(1) {
+        words.push(word)?;
+    }
+    Ok(words)
+}
+
+// The place of a directory.
+fn place_of(alloc: Global, text: &str) -> Result<Place, Failure>
+    ensures ok { IfOk result (λ place. IsPlace place × (text.now ≡ text_of place)) }
+    ensures host { IfErr result (λ failure. failure ≡ Host → ¬ (IsText text.now)) }
+{
+    match Place::parse(alloc, text) {
+        Ok(place) => Ok(place),
+        Err(PlaceErr::Bad) => Err(Failure::Host),
+        Err(PlaceErr::NoMemory) => Err(Failure::NoMemory),
+    }
+}
+
+// The whole seconds since 1970.
+fn seconds_of(time: SystemTime) -> Result<u64, Failure>
+    ensures { IfOk result (IsSeconds (system_time_nanos time)) }
+{
+    match time.duration_since(SystemTime::UNIX_EPOCH) {
+        Ok(passed) => Ok(passed.as_secs()),
+        Err(_) => Err(Failure::Host),
+    }
+}
+
+fn working_directory(rt: &HostRuntime) -> Result<Place, Failure> {
+    let folder = env::current_dir(rt)?;
+    match folder.as_path().to_str() {
+        Some(text) => place_of(rt.alloc(), text),
+        None => Err(Failure::Host),
+    }
+}
+
+fn random_bytes(rt: &HostRuntime) -> io::Result<[u8; 16]> {
+    let mut bytes = [0u8; 16];
+    rt.fill_bytes(&mut bytes)?;
+    Ok(bytes)
+}
+
+/// What the host gives.
+pub(crate) fn begin(rt: &HostRuntime) -> Result<Start, Failure> {
+    Ok(Start {
+        words: after_the_name(rt.alloc(), env::args(rt)?)?,
+        cwd: working_directory(rt)?,
+        moment: seconds_of(SystemTime::now(rt)?)?,
+        fresh: random_bytes(rt)?,
+    })
+}
