@@ -14,3 +14,4 @@ pub mod Rounds
 pub mod Stored
 pub mod Tape
 pub mod Troubles
+pub mod Turns

@@ -1,9 +1,16 @@
 -- Which calls of files in memory fail.
-use Rattle.std.specs.Prelude.{ℕ, ◌+◌, ◌-◌, ◌^◌, min, Bool, false, ◌||◌, if◌then◌else◌, Option, None, Some, nat_le, nat_eq}
+use Rattle.std.specs.Prelude.{◌≡◌, ℕ, [], ◌+◌, ◌-◌, ◌^◌, min, Bool, false, ◌||◌, if◌then◌else◌, Option, None, Some, nat_le, nat_eq}
 use Rattle.std.specs.List.{list_any}
 use Rattle.file_store.specs.declared.memory.plan.Turn.{Turn}
 use Rattle.file_store.specs.declared.memory.plan.Turn.TheVariants.{Works, FailsBefore, FailsAfter}
 use Rattle.file_store.specs.declared.memory.plan.Plan.{Plan}
+
+-- no call is counted yet, and none is to fail
+pub record NoneFails (plan : Plan) : Type 0 where
+  pub calls : plan.calls ≡ 0
+  pub before : plan.before.items ≡ []
+  pub after : plan.after.items ≡ []
+  pub stop : plan.stop ≡ None
 
 -- one more; a count that stands at its last value stays there
 abbrev pub one_more : ℕ → ℕ

@@ -48,11 +48,12 @@ pub struct MemSink {
 }
 
 impl MemSink {
-    ghost use Rattle.file_store.specs.MemSink.{tape_of};
+    ghost use Rattle.file_store.specs.MemSink.{tape_of, NoneFails};
 
     /// An output that took nothing, and of which no write fails.
     pub fn new(alloc: Global) -> MemSink
-        ensures { tape_of result ≡ record { bytes = []; faults = 0 } }
+        ensures tape { tape_of result ≡ record { bytes = []; faults = 0 } }
+        ensures plan { NoneFails result }
     {
         MemSink {
             bytes: Vec::new(alloc),
@@ -66,6 +67,7 @@ impl MemSink {
     pub fn fail_at(&mut self, calls: Vec<u64>)
         ensures tape { tape_of self.new ≡ tape_of self.old }
         ensures plan { self.new.failing ≡ calls }
+        ensures count { self.new.calls ≡ self.old.calls }
     {
         self.failing = calls;
     }
@@ -80,7 +82,7 @@ impl MemSink {
 
 impl Sink for MemSink {
     ghost use Rattle.std.specs.Prelude.{true, ◌↔◌, Err};
-    ghost use Rattle.file_store.specs.MemSink.{tape_of, FailsNext};
+    ghost use Rattle.file_store.specs.MemSink.{tape_of, FailsNext, IsCounted};
     ghost use Rattle.file_store.specs.declared.faults.SinkErr.TheVariants.{Failed};
 
     ghost tells = { true };
@@ -91,6 +93,7 @@ impl Sink for MemSink {
         ensures later { (tape_of self.old).faults ≤ (tape_of self.new).faults }
         ensures ends { PieceEnds true piece.now (tape_of self.old) (tape_of self.new) result }
         ensures plan { (result ≡ Err Failed) ↔ FailsNext self.old }
+        ensures count { IsCounted self.old self.new }
     {
         self.calls = self.calls.saturating_add(1);
         if self.failing.contains(&self.calls) {

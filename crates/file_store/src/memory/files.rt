@@ -2,7 +2,7 @@
 //
 // Each call is counted before anything else. One that fails before its effect ends there; one that fails after its
 // effect does all that it would do, and answers Failed.
-ghost use Rattle.std.specs.Prelude.{◌≡◌, MatchResult};
+ghost use Rattle.std.specs.Prelude.{◌≡◌, ◌≤◌, IsTrue, IfOk, MatchResult};
 ghost use Rattle.file_store.specs.declared.memory.errors.MemErr.TheVariants.{NoMemory};
 
 use crate::faults::FileErr;
@@ -30,10 +30,12 @@ impl MemFiles {
     ghost use Rattle.file_store.specs.Ends.{present};
     ghost use Rattle.file_store.specs.Stored.{IsListOf};
     ghost use Rattle.file_store.specs.MemFiles.{drive_of, ListEnds};
+    ghost use Rattle.file_store.specs.Plan.{NoneFails};
 
     /// No file, and no call that fails.
     pub fn new(alloc: Global) -> MemFiles
-        ensures { drive_of result ≡ fresh empty }
+        ensures drive { drive_of result ≡ fresh empty }
+        ensures plan { NoneFails result.plan }
     {
         MemFiles {
             disk: MemDisk::begin(alloc, Contents::new(alloc), Contents::new(alloc)),
@@ -44,7 +46,8 @@ impl MemFiles {
     /// These files, all of them safe, and no call that fails. Clash names the first place that is an earlier one, or
     /// lies above or below one.
     pub fn from_list(alloc: Global, list: Vec<(Place, Vec<u8>)>) -> Result<MemFiles, MemErr>
-        ensures { ListEnds list.items result }
+        ensures ends { ListEnds list.items result }
+        ensures plan { IfOk result (λ files. NoneFails files.plan) }
     {
         let first = contents_of(alloc, list.as_slice())?;
         let current = contents_of(alloc, list.as_slice())?;
@@ -63,14 +66,16 @@ impl MemFiles {
 
     /// The calls with these numbers, counted from 1, fail without effect or after their effect.
     pub fn fail_at(&mut self, before: Vec<u64>, after: Vec<u64>)
-        ensures { drive_of self.new ≡ drive_of self.old }
+        ensures drive { drive_of self.new ≡ drive_of self.old }
+        ensures plan { self.new ≡ record self.old { plan = record self.old.plan { before = before; after = after } } }
     {
         self.plan.fail_at(before, after);
     }
 
     /// From the n-th call on every call fails without effect.
     pub fn stop_at(&mut self, n: u64)
-        ensures { drive_of self.new ≡ drive_of self.old }
+        ensures drive { drive_of self.new ≡ drive_of self.old }
+        ensures plan { self.new ≡ record self.old { plan = record self.old.plan { stop = Some n } } }
     {
         self.plan.stop_at(n);
     }
@@ -80,6 +85,9 @@ impl Files for MemFiles {
     ghost use Rattle.std.specs.Prelude.{true};
     ghost use Rattle.file_store.specs.MemDisk.{grounded_in};
     ghost use Rattle.file_store.specs.MemFiles.{drive_of};
+    ghost use Rattle.file_store.specs.Disk.{MayStep, IsWritten, IsRenamed, IsRemoved, IsSynced};
+    ghost use Rattle.file_store.specs.Ends.{KindEnds, SizeEnds, ReadEnds, PartEnds, ListEnds, WriteEnds, AppendEnds, RenameEnds, RemoveEnds, BarrierEnds};
+    ghost use Rattle.file_store.specs.Turns.{ReadsByTurn, ChangesByTurn, writes, appends, renames, removes, syncs};
 
     ghost tells = { true };
 
@@ -87,7 +95,11 @@ impl Files for MemFiles {
 
     ghost grounded = { λ files _. grounded_in files.disk };
 
-    fn kind(&mut self, _: Global, place: &Place) -> Result<Kind, FileErr> {
+    fn kind(&mut self, _: Global, place: &Place) -> Result<Kind, FileErr>
+        ensures later { (drive_of self.old).faults ≤ (drive_of self.new).faults }
+        ensures ends { KindEnds true place.now (drive_of self.old) (drive_of self.new) result }
+        ensures turn { ReadsByTurn self.old self.new result }
+    {
         if self.plan.next() != Turn::Works {
             return Err(FileErr::Failed);
         }
@@ -100,7 +112,11 @@ impl Files for MemFiles {
         Ok(Kind::Absent)
     }
 
-    fn size(&mut self, _: Global, place: &Place) -> Result<Option<u64>, FileErr> {
+    fn size(&mut self, _: Global, place: &Place) -> Result<Option<u64>, FileErr>
+        ensures later { (drive_of self.old).faults ≤ (drive_of self.new).faults }
+        ensures ends { SizeEnds true place.now (drive_of self.old) (drive_of self.new) result }
+        ensures turn { ReadsByTurn self.old self.new result }
+    {
         if self.plan.next() != Turn::Works {
             return Err(FileErr::Failed);
         }
@@ -110,7 +126,11 @@ impl Files for MemFiles {
         }
     }
 
-    fn read(&mut self, alloc: Global, place: &Place) -> Result<Option<Vec<u8>>, FileErr> {
+    fn read(&mut self, alloc: Global, place: &Place) -> Result<Option<Vec<u8>>, FileErr>
+        ensures later { (drive_of self.old).faults ≤ (drive_of self.new).faults }
+        ensures ends { ReadEnds true place.now (drive_of self.old) (drive_of self.new) result }
+        ensures turn { ReadsByTurn self.old self.new result }
+    {
         if self.plan.next() != Turn::Works {
             return Err(FileErr::Failed);
         }
@@ -126,7 +146,11 @@ impl Files for MemFiles {
         place: &Place,
         from: u64,
         buffer: &mut [u8],
-    ) -> Result<usize, FileErr> {
+    ) -> Result<usize, FileErr>
+        ensures later { (drive_of self.old).faults ≤ (drive_of self.new).faults }
+        ensures ends { PartEnds true place.now from buffer.old buffer.new (drive_of self.old) (drive_of self.new) result }
+        ensures turn { ReadsByTurn self.old self.new result }
+    {
         if self.plan.next() != Turn::Works {
             return Err(FileErr::Failed);
         }
@@ -136,14 +160,23 @@ impl Files for MemFiles {
         }
     }
 
-    fn list(&mut self, alloc: Global, place: &Place) -> Result<Vec<Item>, FileErr> {
+    fn list(&mut self, alloc: Global, place: &Place) -> Result<Vec<Item>, FileErr>
+        ensures later { (drive_of self.old).faults ≤ (drive_of self.new).faults }
+        ensures ends { ListEnds true place.now (drive_of self.old) (drive_of self.new) result }
+        ensures turn { ReadsByTurn self.old self.new result }
+    {
         if self.plan.next() != Turn::Works {
             return Err(FileErr::Failed);
         }
         Ok(self.disk.list(alloc, place)?)
     }
 
-    fn write(&mut self, alloc: Global, place: &Place, bytes: &[u8]) -> Result<(), FileErr> {
+    fn write(&mut self, alloc: Global, place: &Place, bytes: &[u8]) -> Result<(), FileErr>
+        ensures later { (drive_of self.old).faults ≤ (drive_of self.new).faults }
+        ensures ends { WriteEnds true place.now bytes.now (drive_of self.old) (drive_of self.new) result }
+        ensures steps { IsTrue true → MayStep (IsWritten place.now) (drive_of self.old).history (drive_of self.new).history }
+        ensures turn { ChangesByTurn (writes place.now bytes.now) self.old self.new result }
+    {
         let turn = self.plan.next();
         if turn == Turn::FailsBefore {
             return Err(FileErr::Failed);
@@ -157,7 +190,12 @@ impl Files for MemFiles {
         answer(turn)
     }
 
-    fn append(&mut self, alloc: Global, place: &Place, bytes: &[u8]) -> Result<(), FileErr> {
+    fn append(&mut self, alloc: Global, place: &Place, bytes: &[u8]) -> Result<(), FileErr>
+        ensures later { (drive_of self.old).faults ≤ (drive_of self.new).faults }
+        ensures ends { AppendEnds true place.now bytes.now (drive_of self.old) (drive_of self.new) result }
+        ensures steps { IsTrue true → MayStep (IsWritten place.now) (drive_of self.old).history (drive_of self.new).history }
+        ensures turn { ChangesByTurn (appends place.now bytes.now) self.old self.new result }
+    {
         let turn = self.plan.next();
         if turn == Turn::FailsBefore {
             return Err(FileErr::Failed);
@@ -171,7 +209,12 @@ impl Files for MemFiles {
         answer(turn)
     }
 
-    fn rename(&mut self, alloc: Global, from: &Place, to: &Place) -> Result<bool, FileErr> {
+    fn rename(&mut self, alloc: Global, from: &Place, to: &Place) -> Result<bool, FileErr>
+        ensures later { (drive_of self.old).faults ≤ (drive_of self.new).faults }
+        ensures ends { RenameEnds true from.now to.now (drive_of self.old) (drive_of self.new) result }
+        ensures steps { IsTrue true → MayStep (IsRenamed from.now to.now) (drive_of self.old).history (drive_of self.new).history }
+        ensures turn { ChangesByTurn (renames from.now to.now) self.old self.new result }
+    {
         let turn = self.plan.next();
         if turn == Turn::FailsBefore {
             return Err(FileErr::Failed);
@@ -190,7 +233,12 @@ impl Files for MemFiles {
         Ok(true)
     }
 
-    fn remove(&mut self, alloc: Global, place: &Place) -> Result<bool, FileErr> {
+    fn remove(&mut self, alloc: Global, place: &Place) -> Result<bool, FileErr>
+        ensures later { (drive_of self.old).faults ≤ (drive_of self.new).faults }
+        ensures ends { RemoveEnds true place.now (drive_of self.old) (drive_of self.new) result }
+        ensures steps { IsTrue true → MayStep (IsRemoved place.now) (drive_of self.old).history (drive_of self.new).history }
+        ensures turn { ChangesByTurn (removes place.now) self.old self.new result }
+    {
         let turn = self.plan.next();
         if turn == Turn::FailsBefore {
             return Err(FileErr::Failed);
@@ -204,7 +252,12 @@ impl Files for MemFiles {
         Ok(true)
     }
 
-    fn barrier(&mut self, _: Global) -> Result<(), FileErr> {
+    fn barrier(&mut self, _: Global) -> Result<(), FileErr>
+        ensures later { (drive_of self.old).faults ≤ (drive_of self.new).faults }
+        ensures ends { BarrierEnds true (drive_of self.old) (drive_of self.new) result }
+        ensures steps { IsTrue true → MayStep IsSynced (drive_of self.old).history (drive_of self.new).history }
+        ensures turn { ChangesByTurn syncs self.old self.new result }
+    {
         let turn = self.plan.next();
         if turn == Turn::FailsBefore {
             return Err(FileErr::Failed);

@@ -26,11 +26,12 @@ pub(crate) struct Plan {
 }
 
 impl Plan {
-    ghost use Rattle.file_store.specs.Plan.{is_stopped, turn_at, turn_of, counted};
+    ghost use Rattle.file_store.specs.Plan.{NoneFails, is_stopped, turn_at, turn_of, counted};
 
     // None fails.
     pub(crate) fn new(alloc: Global) -> Plan
-        ensures { result.faults ≡ 0 }
+        ensures faults { result.faults ≡ 0 }
+        ensures plan { NoneFails result }
     {
         Plan {
             calls: 0,

@@ -1,4 +1,4 @@
-// What no clause says: the numbers of the calls that fail, texts, and that a call can succeed.
+// What no clause says: texts, and that a call can succeed. And worked examples of the calls that fail.
 use super::*;
 use crate::faults::FileErr;
 use crate::files::Files;
