@@ -1,12 +1,13 @@
 // What a call begins with: words, working directory, clock and random bytes, or why the host gave none.
-ghost use Rattle.std.specs.Prelude.{◌≡◌, ◌≤◌, ◌*◌, ◌+◌, ◌^◌, ◌<◌, map, drop, string_bytes, IfOk, IfErr};
+ghost use Rattle.std.specs.Prelude.{◌≡◌, drop, IfOk, IfErr};
 ghost use Rattle.std.specs.Time.{system_time_nanos};
 ghost use Rattle.places.specs.Names.{IsText, IsPlace, text_of};
 ghost use Rattle.datalad.specs.Starts.{IsSeconds};
+ghost use Rattle.datalad.specs.declared.start.Failure.TheVariants.{Host};
 
 use file_store::{Place, PlaceErr};
 use std::alloc::{AllocError, Global};
-use std::env::{self, Args};
+use std::env;
 use std::io::{self, ErrorKind};
 use std::random::RandomSource;
 use std::time::SystemTime;
@@ -72,14 +73,10 @@ impl Failure {
 }
 
 // All words but the first, which is the program's name.
-fn after_the_name(alloc: Global, all: Args) -> Result<Vec<String>, AllocError>
+fn after_the_name(alloc: Global, all: Vec<String>) -> Result<Vec<String>, AllocError>
     ensures { IfOk result (λ words. words.items ≡ drop 1 all.items) }
 {
-    let mut words = Vec::new(alloc);
-    for word in all.skip(1) {
-        words.push(word)?;
-    }
-    Ok(words)
+    all.into_iter().skip(1).collect(alloc)
 }
 
 // The place of a directory.
@@ -121,7 +118,7 @@ fn random_bytes(rt: &HostRuntime) -> io::Result<[u8; 16]> {
 /// What the host gives.
 pub(crate) fn begin(rt: &HostRuntime) -> Result<Start, Failure> {
     Ok(Start {
-        words: after_the_name(rt.alloc(), env::args(rt)?)?,
+        words: after_the_name(rt.alloc(), env::args(rt)?.collect(rt.alloc())?)?,
         cwd: working_directory(rt)?,
         moment: seconds_of(SystemTime::now(rt)?)?,
         fresh: random_bytes(rt)?,
