@@ -6,6 +6,7 @@ ghost use Rattle.std.specs.Prelude.{◌≡◌, ◌≤◌, ◌++◌, length, IsTr
 ghost use Rattle.places.specs.Names.{text_of};
 ghost use Rattle.file_store.specs.Ends.{present};
 ghost use Rattle.object_store.specs.Layout.{tmp_place as tmp_of};
+ghost use Rattle.object_store.specs.Puts.{object_limit, repo_limit};
 ghost use Rattle.datalad_cli.specs.Layout.{repo_of};
 ghost use Rattle.datalad_cli.specs.Created.{new_parts, with_dataset};
 ghost use Rattle.datalad_cli.specs.Creating.{created_line, created_or_not, Partly, CreateEnds};
@@ -47,7 +48,7 @@ fn by_tmp(
     place: Place,
     bytes: Bytes,
 ) -> Result<Replacement, AllocError>
-    requires { length (text_of repo.now) ≤ 4046 }
+    requires { length (text_of repo.now) ≤ object_limit }
     ensures { IfOk result (λ r. r ≡ record { tmp = tmp_of repo.now number; place = place; bytes = bytes }) }
 {
     let tmp = tmp_place(alloc, repo, number)?;
@@ -65,7 +66,7 @@ fn middle(
     main: Bytes,
 ) -> Result<Vec<Replacement>, AllocError>
     requires repo { repo.now ≡ repo_of root.now }
-    requires fits { length (text_of repo.now) ≤ 3584 }
+    requires fits { length (text_of repo.now) ≤ repo_limit }
     ensures { IfOk result (λ list. list.items ≡ middle_files root.now config settings main) }
 {
     let mut list = Vec::new(alloc);
@@ -87,7 +88,7 @@ fn write_dataset<F: Files>(
     plan: Plan,
 ) -> Result<(), Trouble>
     requires repo { repo.now ≡ repo_of root.now }
-    requires fits { length (text_of repo.now) ≤ 3584 }
+    requires fits { length (text_of repo.now) ≤ repo_limit }
     ensures later { (F.drive files.old).faults ≤ (F.drive files.new).faults }
     ensures ends { DatasetEnds F.tells root.now (parts_of plan) (F.drive files.old) (F.drive files.new) result }
     ensures left { IsTrue F.tells → IsVacant root.now (present (F.drive files.old)) → Partly root.now (parts_of plan).objects (present (F.drive files.old)) (with_dataset root.now (parts_of plan) (present (F.drive files.old))) (present (F.drive files.new)) }

@@ -3,6 +3,7 @@ ghost use Rattle.std.specs.Prelude.{◌≡◌, ◌≤◌, ◌++◌, length, IfOk
 ghost use Rattle.places.specs.Names.{is_path, pieces, text_of};
 ghost use Rattle.git_objects.specs.Objects.{hex_of};
 ghost use Rattle.object_store.specs.Layout.{object_names, object_place, tmp_place};
+ghost use Rattle.object_store.specs.Puts.{object_limit};
 
 use file_store::Place;
 use git_objects::Id;
@@ -26,7 +27,7 @@ fn object_path(alloc: Global, id: Id) -> Result<String, AllocError>
 
 /// Where the object with this id stands.
 pub fn object_place(alloc: Global, repo: &Place, id: &Id) -> Result<Place, AllocError>
-    requires { length (text_of repo.now) ≤ 4046 }
+    requires { length (text_of repo.now) ≤ object_limit }
     ensures { IfOk result (λ place. place ≡ object_place repo.now id.now.0) }
 {
     let path = object_path(alloc, *id)?;
@@ -35,7 +36,7 @@ pub fn object_place(alloc: Global, repo: &Place, id: &Id) -> Result<Place, Alloc
 
 /// The temporary place with this number.
 pub fn tmp_place(alloc: Global, repo: &Place, number: usize) -> Result<Place, AllocError>
-    requires { length (text_of repo.now) ≤ 4046 }
+    requires { length (text_of repo.now) ≤ object_limit }
     ensures { IfOk result (λ place. place ≡ tmp_place repo.now number) }
 {
     let path = format!(in alloc; "tmp/{number}")?;

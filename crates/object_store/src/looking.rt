@@ -5,7 +5,7 @@ ghost use Rattle.git_objects.specs.Objects.{oid, is_object_text};
 ghost use Rattle.places.specs.Names.{text_of};
 ghost use Rattle.object_store.specs.Held.{place_in};
 ghost use Rattle.object_store.specs.Looks.{IsFound, LookEnds, MissingEnds};
-ghost use Rattle.object_store.specs.Puts.{found_fault};
+ghost use Rattle.object_store.specs.Puts.{found_fault, object_limit};
 
 use crate::layout::{object_place, tmp_place};
 use crate::objects::NewObject;
@@ -58,7 +58,7 @@ fn look_at<F: Files>(
     object: &NewObject,
     list: &mut Vec<Replacement>,
 ) -> Result<(), Trouble>
-    requires { length (text_of repo.now) ≤ 4046 }
+    requires { length (text_of repo.now) ≤ object_limit }
     ensures later { (F.drive files.old).faults ≤ (F.drive files.new).faults }
     ensures ends { LookEnds F.tells repo.now object.now list.old.items list.new.items (F.drive files.old) (F.drive files.new) result }
 {
@@ -84,7 +84,7 @@ pub(crate) fn missing<F: Files>(
     repo: &Place,
     objects: &[NewObject],
 ) -> Result<Vec<Replacement>, Trouble>
-    requires { length (text_of repo.now) ≤ 4046 }
+    requires { length (text_of repo.now) ≤ object_limit }
     ensures later { (F.drive files.old).faults ≤ (F.drive files.new).faults }
     ensures ends { MissingEnds F.tells repo.now objects.now (F.drive files.old) (F.drive files.new) result }
 {
