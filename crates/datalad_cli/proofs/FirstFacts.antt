@@ -4,7 +4,6 @@ use Rattle.std.specs.Prelude.{IsTrue}
 use Rattle.places.specs.Names.{is_name}
 use Rattle.git_objects.specs.Objects.{is_entry, is_extra, is_person, is_zone}
 use Rattle.git_objects.specs.declared.entries.Mode.{Mode}
-use Rattle.git_objects.specs.declared.entries.TreeEntry.{TreeEntry}
 use Rattle.git_objects.specs.declared.ids.Id.{Id}
 use Rattle.config_text.specs.Texts.{repo_text, made}
 use Rattle.config_text.specs.declared.uuids.Role.TheVariants.{Repository}

@@ -18,7 +18,7 @@ use Rattle.datalad_cli.specs.Acts.{ActEnds, IsMade, IsActFault, act_ground, plac
 use Rattle.datalad_cli.specs.Answer.{Answer, Call, answer, create_answer, refused, misused, lines_text, usage_text, device_text, memory_text}
 use Rattle.datalad_cli.specs.FaultTexts.{fault_text}
 use Rattle.datalad_cli.specs.Reports.{Tapes, Heard, Says, SaysPart, TookPart, SomeRose, outcome_text, ReportEnds, UsageEnds}
-use Rattle.datalad_cli.specs.Ends.{World, Telling, root_of, repo_named, objects_named, IsAnswered, IsCutOff, AnyRose, CallEnds, PlaceDecides, MaySay, usage, refusal, line, nothing, SaysSome, WordsDecide}
+use Rattle.datalad_cli.specs.Ends.{World, Telling, root_of, repo_named, objects_named, IsAnswered, IsCutOff, AnyRose, CallEnds, PlaceDecides, MaySay, usage, refusal, line, nothing, WordsDecide}
 use Rattle.datalad_cli.specs.declared.status.Status.{Status}
 use Rattle.datalad_cli.specs.declared.status.Status.TheVariants.{Done, Refused, Usage, NoMemory, Device, CommandFailed}
 use Rattle.datalad_cli.proofs.Agreeing.{Agree-less, Agree-same, LessTmp-same}

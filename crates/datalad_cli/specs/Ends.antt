@@ -1,5 +1,5 @@
 -- How a call of the program ends.
-use Rattle.std.specs.Prelude.{◌≡◌, ◌≢◌, ◌⊎◌, ℕ, ◌≤◌, Bool, IsTrue, List, [], ◌∷◌, ◌++◌, length, take, Option, Some, None}
+use Rattle.std.specs.Prelude.{◌≡◌, ◌≢◌, ◌⊎◌, ℕ, Bool, IsTrue, List, [], ◌∷◌, Option, Some, None}
 use Rattle.file_store.specs.Causes.{Rose}
 use Rattle.file_store.specs.Disk.{Drive}
 use Rattle.file_store.specs.Ends.{present}

@@ -1,5 +1,5 @@
 -- The words of a call.
-use Rattle.std.specs.Prelude.{◌≡◌, ℕ, Bool, true, false, not, ◌&&◌, nat_eq, nat_le, List, [], ◌∷◌, length, codes, bytes_eq, Option, Some, None, if◌then◌else◌}
+use Rattle.std.specs.Prelude.{ℕ, Bool, not, ◌&&◌, nat_eq, nat_le, List, [], ◌∷◌, length, codes, bytes_eq, Option, Some, None, if◌then◌else◌}
 use Rattle.std.specs.List.{starts_with, list_all}
 use Rattle.places.specs.Names.{is_name, text_of, target, has_name, longest}
 use Rattle.datalad_cli.specs.Layout.{dlrepo}

@@ -4,7 +4,6 @@ use Rattle.places.specs.Ground.{Ground, stands, stands_below, stands_above}
 use Rattle.file_store.specs.Causes.{Rose}
 use Rattle.file_store.specs.Disk.{Drive}
 use Rattle.file_store.specs.Ends.{present}
-use Rattle.file_store.specs.declared.faults.Fault.{Fault}
 use Rattle.file_store.specs.declared.faults.Fault.TheVariants.{Blocked}
 use Rattle.file_store.specs.declared.faults.Trouble.{Trouble}
 use Rattle.file_store.specs.declared.faults.Trouble.TheVariants.{Refused, Device, NoMemory}

@@ -2,7 +2,7 @@
 //
 // The plan is made before the disk is touched. Then come the objects, the files that only HEAD makes a dataset of, and
 // HEAD last: a crash before it leaves no dataset, and one after it a whole one.
-ghost use Rattle.std.specs.Prelude.{◌≡◌, ◌≤◌, ◌++◌, length, IsTrue, IfOk, string_bytes};
+ghost use Rattle.std.specs.Prelude.{◌≡◌, ◌≤◌, length, IsTrue, IfOk, string_bytes};
 ghost use Rattle.places.specs.Names.{text_of};
 ghost use Rattle.file_store.specs.Ends.{present};
 ghost use Rattle.object_store.specs.Layout.{tmp_place as tmp_of};

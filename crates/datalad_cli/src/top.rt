@@ -1,11 +1,9 @@
 // The top call: one command, from its words to its two texts and its status.
-ghost use Rattle.std.specs.Prelude.{◌≡◌, ◌≤◌, [], map, string_bytes, IsTrue, IfOk};
+ghost use Rattle.std.specs.Prelude.{◌≡◌, ◌≤◌, [], map, string_bytes, IsTrue};
 ghost use Rattle.file_store.specs.Ends.{present};
 ghost use Rattle.datalad_cli.specs.Acts.{ActEnds, act_ground, act_objects, place_or_top};
-ghost use Rattle.datalad_cli.specs.Answer.{lines_text, usage_text};
 ghost use Rattle.datalad_cli.specs.Creating.{Partly};
 ghost use Rattle.datalad_cli.specs.Ends.{CallEnds, WordsDecide};
-ghost use Rattle.datalad_cli.specs.Reports.{ReportEnds, UsageEnds};
 ghost use Rattle.datalad_cli.specs.Words.{leads};
 
 use crate::creating::create;

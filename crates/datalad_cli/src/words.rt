@@ -1,5 +1,5 @@
 // The words of a call: `create DIR`, and where the directory's word leads.
-ghost use Rattle.std.specs.Prelude.{◌≡◌, ◌≤◌, codes, nat_eq, map, string_bytes, bytes_eq, length, MatchResult, MatchOption, None, Some};
+ghost use Rattle.std.specs.Prelude.{◌≡◌, codes, nat_eq, map, string_bytes, bytes_eq, MatchResult, None, Some};
 ghost use Rattle.std.specs.List.{starts_with};
 ghost use Rattle.places.specs.Names.{has_name};
 ghost use Rattle.datalad_cli.specs.Layout.{dlrepo};

@@ -1,9 +1,9 @@
 -- How each call of files ends: what each outcome leaves and tells.
-use Rattle.std.specs.Prelude.{◌≡◌, ℕ, ◌-◌, ◌≤◌, min, Bool, true, false, IsTrue, List, [], ◌++◌, length, take, drop, Option, Some, None, option_map, unwrap_or, Vec, Result, Ok, Err}
+use Rattle.std.specs.Prelude.{◌≡◌, ℕ, ◌≤◌, Bool, true, false, IsTrue, List, [], ◌++◌, length, take, drop, Option, option_map, unwrap_or, Vec, Result, Ok, Err}
 use Rattle.std.specs.declared.alloc.Global.{Global}
 use Rattle.places.specs.Ground.{Ground, file_at, stands, is_shut}
 use Rattle.file_store.specs.Causes.{Rose}
-use Rattle.file_store.specs.Disk.{Drive, Disk, History, next, wrote, appended, renamed, removed, synced}
+use Rattle.file_store.specs.Disk.{Drive, Disk, next, wrote, appended, renamed, removed, synced}
 use Rattle.file_store.specs.Kinds.{kind_at, AreListed, IsListing}
 use Rattle.file_store.specs.declared.kinds.Kind.{Kind}
 use Rattle.file_store.specs.declared.kinds.Item.{Item}

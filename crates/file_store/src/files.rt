@@ -1,5 +1,5 @@
 // Files as the layers above see them: what a call reads, what it changes, and what a crash may leave.
-ghost use Rattle.std.specs.Prelude.{◌≡◌, ◌≤◌, ℕ, Bool, IsTrue};
+ghost use Rattle.std.specs.Prelude.{◌≤◌, Bool, IsTrue};
 ghost use Rattle.places.specs.Ground.{IsGround};
 ghost use Rattle.file_store.specs.Disk.{Drive, MayStep, IsWritten, IsRenamed, IsRemoved, IsSynced};
 ghost use Rattle.file_store.specs.Ends.{present, KindEnds, SizeEnds, ReadEnds, PartEnds, ListEnds, WriteEnds, AppendEnds, RenameEnds, RemoveEnds, BarrierEnds};

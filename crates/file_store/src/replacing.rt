@@ -3,7 +3,7 @@
 // The order is what keeps the promise: all bytes are written to temporary places, a barrier makes them safe, each is
 // renamed onto its place, and a second barrier makes the names safe. A reader never sees a part of a file. After a
 // failure each place has the old bytes or the new ones, and a temporary file may be left.
-ghost use Rattle.std.specs.Prelude.{◌≡◌, ◌≢◌, ◌≤◌, IsTrue};
+ghost use Rattle.std.specs.Prelude.{◌≢◌, ◌≤◌, IsTrue};
 ghost use Rattle.file_store.specs.Disk.{Since};
 ghost use Rattle.file_store.specs.Ends.{present};
 ghost use Rattle.file_store.specs.Replaced.{only, ReplaceEnds, AreApart, AreDistinct, Between, Allows, IsOther, IsFile, IsNoTmp, IsNew};

@@ -1,5 +1,5 @@
 // Outputs: what a write takes, and a whole text written piece by piece.
-ghost use Rattle.std.specs.Prelude.{◌≡◌, ◌≤◌, ℕ, Bool, [], length, drop};
+ghost use Rattle.std.specs.Prelude.{◌≡◌, ◌≤◌, Bool, [], length, drop};
 ghost use Rattle.file_store.specs.Tape.{Tape, PieceEnds, WholeEnds};
 
 use crate::faults::SinkErr;

@@ -1,5 +1,5 @@
 -- What the host's files tell: nothing of contents, and how often they failed.
-use Rattle.std.specs.Prelude.{ℕ, List, []}
+use Rattle.std.specs.Prelude.{ℕ, []}
 use Rattle.std.specs.FinMap.{empty}
 use Rattle.file_store.specs.Causes.{Rose}
 use Rattle.file_store.specs.Disk.{Drive, at_rest}

@@ -1,5 +1,5 @@
 // Places in a repository.
-ghost use Rattle.std.specs.Prelude.{◌≡◌, ◌≤◌, ◌++◌, length, IfOk, IsTrue, string_bytes, codes, decimal, take, drop, ◌∷◌};
+ghost use Rattle.std.specs.Prelude.{◌≡◌, ◌≤◌, ◌++◌, length, IfOk, IsTrue, string_bytes, codes, take, drop, ◌∷◌};
 ghost use Rattle.places.specs.Names.{is_path, pieces, text_of};
 ghost use Rattle.git_objects.specs.Objects.{hex_of};
 ghost use Rattle.object_store.specs.Layout.{object_names, object_place, tmp_place};

@@ -1,6 +1,6 @@
 // The names directly below a place, in byte order.
-ghost use Rattle.std.specs.Prelude.{◌≡◌, ◌==◌, ◌<◌, List, ℕ, string_bytes, length, nat_lt, if◌then◌else◌, IfOk, OnOk, MatchOption, MatchResult};
-ghost use Rattle.std.specs.List.{AllByRecursion, before_first, position_or_len};
+ghost use Rattle.std.specs.Prelude.{◌≡◌, ◌==◌, ◌<◌, List, ℕ, string_bytes, IfOk, OnOk, MatchOption};
+ghost use Rattle.std.specs.List.{AllByRecursion, before_first};
 ghost use Rattle.std.specs.String.{string_cmp};
 ghost use Rattle.std.specs.BTreeMap.{keys, IsOrdered, get_by_text};
 ghost use Rattle.places.specs.Names.{slash, IsPlace, IsPathBelow, IsAtOrAbove};
