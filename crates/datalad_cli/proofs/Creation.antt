@@ -126,6 +126,7 @@ module _ (tells : Bool) (root : List (List ℕ)) (moment : ℕ) (fresh : List �
               fault_none root (present old) (vacant_old told) fits above,
               subst (λ (g : Ground). LessTmp (repo_of root) (created root moment fresh g) (present new)) (now_same told)
                   (subst (λ (p : Parts). LessTmp (repo_of root) (with_dataset root p (present mid)) (present new)) planned wrote.1),
+              wrote.2,
             ),
       )
 

@@ -16,6 +16,7 @@ use Rattle.datalad_cli.specs.Created.{created}
 use Rattle.datalad_cli.specs.Creating.{Partly, created_line}
 use Rattle.datalad_cli.specs.Acts.{ActEnds, IsMade, IsActFault, act_ground, place_or_top}
 use Rattle.datalad_cli.specs.Answer.{Answer, Call, answer, create_answer, refused, misused, lines_text, usage_text, device_text, memory_text}
+use Rattle.datalad_cli.specs.Writing.{IsSafe}
 use Rattle.datalad_cli.specs.FaultTexts.{fault_text}
 use Rattle.datalad_cli.specs.Reports.{Tapes, Heard, Says, SaysPart, TookPart, SomeRose, outcome_text, ReportEnds, UsageEnds}
 use Rattle.datalad_cli.specs.Ends.{World, Telling, root_of, repo_named, objects_named, IsAnswered, IsCutOff, AnyRose, CallEnds, PlaceDecides, MaySay, usage, refusal, line, nothing, WordsDecide}
@@ -34,17 +35,19 @@ said_lines heard err old new lines others same says = subst (λ (ls : List Line)
 -- DONE
 done_at : (t : Telling) (call : Call) (old new : World) (lines : List Line) (root : Option (List (List ℕ)))
     → misread call.words ≡ None → root_of call ≡ root → IsMade t.files root call.moment call.fresh lines old.drive new.drive
-    → Says t.heard (lines_text lines) [] old.tapes new.tapes → IsTrue t.files → IsAnswered t call (answer call (present old.drive)) Done old new
+    → Says t.heard (lines_text lines) [] old.tapes new.tapes → IsTrue t.files → IsAnswered t call (answer call (present old.drive)) Done old new × IsSafe new.drive
 done_at t call old new lines None read at made says told = absurd made
 done_at t call old new lines (Some root) read at made says told =
     let less = (made.1 told).1 in
-    let g = present old.drive in
-    along t call (answer call g) (create_answer call root g None) Done old new (answer_made call g root read at (made.1 told).0) (record {
-      status_is = refl;
-      stands = subst (λ (r : Option (List (List ℕ))). LessTmp (repo_of (place_or_top r)) (created root call.moment call.fresh g) (present new.drive)) (sym at) less;
-      agrees = Agree-less root (created root call.moment call.fresh g) (present new.drive) (leads_clear call.cwd (dir_word call.words) root at) less;
-      says = said_lines t.heard [] old.tapes new.tapes lines (created_line root ∷ []) made.0 says;
-    })
+    let g = present old.drive in (
+      along t call (answer call g) (create_answer call root g None) Done old new (answer_made call g root read at (made.1 told).0) (record {
+        status_is = refl;
+        stands = subst (λ (r : Option (List (List ℕ))). LessTmp (repo_of (place_or_top r)) (created root call.moment call.fresh g) (present new.drive)) (sym at) less;
+        agrees = Agree-less root (created root call.moment call.fresh g) (present new.drive) (leads_clear call.cwd (dir_word call.words) root at) less;
+        says = said_lines t.heard [] old.tapes new.tapes lines (created_line root ∷ []) made.0 says;
+      }),
+      (made.1 told).2,
+    )
 
 -- REFUSED
 same_ground : (d e : Drive) → e.history ≡ d.history → present e ≡ present d

@@ -5,7 +5,7 @@ use Rattle.std.proofs.lemmas.Bool.{cases_Bool, false≢true, le-ltb}
 use Rattle.places.specs.Names.{text_of}
 use Rattle.places.specs.Ground.{Ground, file_at, stands_above}
 use Rattle.places.proofs.Grounds.{cases_place, file_at-insert_same, file_at-insert_other, file_at-remove_other}
-use Rattle.file_store.specs.Disk.{Disk, Drive}
+use Rattle.file_store.specs.Disk.{Disk, Drive, at_rest}
 use Rattle.file_store.specs.Ends.{present}
 use Rattle.file_store.specs.Replaced.{replaced, staged, installed, all_replaced, stage_block, move_block, block_of, or_next, first_shut, only, ReplaceEnds}
 use Rattle.file_store.specs.Troubles.{trouble_of}
@@ -24,7 +24,7 @@ use Rattle.object_store.proofs.After.{NoTmp, NoPlace, staged_other, installed_tm
 use Rattle.object_store.proofs.Ours.{none_held}
 use Rattle.datalad_cli.specs.Layout.{repo_of, head_place}
 use Rattle.datalad_cli.specs.Created.{Parts, with_dataset, head_text}
-use Rattle.datalad_cli.specs.Writing.{middle_files, IsVacant, DatasetEnds}
+use Rattle.datalad_cli.specs.Writing.{middle_files, IsVacant, IsSafe, DatasetEnds}
 use Rattle.datalad_cli.proofs.Parts.{AreOurs, staging_ours, middle_ours, head_ours}
 use Rattle.datalad_cli.proofs.Clear.{IsClear, clear_base, clear_objects, clear_fewer, clear_all, none_blocked, free_objects, shut_tmp}
 
@@ -174,10 +174,14 @@ module _ (tells : Bool) (root : List (List ℕ)) (fits : length (text_of (repo_o
   less_middle told = subst (λ (g : Ground). LessTmp (repo_of root) (with_files list (with_objects (repo_of root) parts.objects (present old))) g) (sym (now_middle told))
       (less_replaced root list (with_objects (repo_of root) parts.objects (present old)) (present d1) (middle_ours root parts.config parts.settings parts.main) (put told).1)
 
+  safe_at : (new : Drive) (g : Ground) → new.history.latest ≡ at_rest g → IsSafe new
+  safe_at new g is = is ∙ ap at_rest (sym (ap (λ (d : Disk). d.now) is))
+
   -- all is written
   pub dataset_done : (new : Drive) → ReplaceEnds tells (only (tmp_place (repo_of root) 0) (head_place root) head_text) d2 new (Ok tt) → DatasetEnds tells root parts old new (Ok tt)
   dataset_done new head told vacant some = (
     (put_clear tells root fits old d1 parts.objects put told vacant some).0,
     subst (λ (g : Ground). LessTmp (repo_of root) (with_dataset root parts (present old)) g) (sym (ap (λ (d : Disk). d.now) (head told).0))
         (less_replaced root (only (tmp_place (repo_of root) 0) (head_place root) head_text) (with_files list (with_objects (repo_of root) parts.objects (present old))) (present d2) (head_ours root head_text) (less_middle told)),
+    safe_at new _ (head told).0,
   )

@@ -14,6 +14,7 @@ use Rattle.datalad_cli.specs.Layout.{repo_of}
 use Rattle.object_store.specs.declared.objects.NewObject.{NewObject}
 use Rattle.datalad_cli.specs.Created.{created, new_parts}
 use Rattle.datalad_cli.specs.Creating.{create_fault, created_line, created_or_not, IsCreateFault}
+use Rattle.datalad_cli.specs.Writing.{IsSafe}
 
 abbrev pub place_or_top : Option (List (List ℕ)) → List (List ℕ)
 place_or_top None = []
@@ -39,12 +40,12 @@ abbrev pub IsActFault : Option (List (List ℕ)) → Fault → Type 0
 IsActFault None fault = fault ≡ BadPath 1
 IsActFault (Some root) fault = IsCreateFault fault
 
--- the dataset was made
+-- the dataset was made, and is safe from a crash
 abbrev pub IsMade : Bool → Option (List (List ℕ)) → ℕ → List ℕ → List Line → Drive → Drive → Type 0
 IsMade tells None moment fresh lines old new = ⊥
 IsMade tells (Some root) moment fresh lines old new =
     (lines ≡ created_line root ∷ [])
-    × (IsTrue tells → (create_fault root (present old) ≡ None) × LessTmp (repo_of root) (created root moment fresh (present old)) (present new))
+    × (IsTrue tells → (create_fault root (present old) ≡ None) × LessTmp (repo_of root) (created root moment fresh (present old)) (present new) × IsSafe new)
 
 abbrev pub ActEnds : Bool → Option (List (List ℕ)) → ℕ → List ℕ → List Line → Drive → Drive → Result (Unit {0}) Trouble → Type 0
 ActEnds tells root moment fresh lines old new (Ok _) = IsMade tells root moment fresh lines old new

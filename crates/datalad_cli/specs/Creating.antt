@@ -17,6 +17,7 @@ use Rattle.object_store.specs.declared.objects.NewObject.{NewObject}
 use Rattle.object_store.specs.Puts.{repo_limit, large, IsObject}
 use Rattle.datalad_cli.specs.Layout.{repo_of, head_place}
 use Rattle.datalad_cli.specs.Created.{created, config_text, first_id}
+use Rattle.datalad_cli.specs.Writing.{IsSafe}
 
 -- Why no dataset is made at a root: a file stands at or below it, or its repository's place is too long to write in,
 -- or a file above it is in the way of the first file that is written.
@@ -61,13 +62,13 @@ pub record Partly (root : List (List ℕ)) (objects : List NewObject) (a b after
   pub head_last : (file_at after (head_place root) ≡ file_at a (head_place root))
       ⊎ ((q : List (List ℕ)) → in_tmp (repo_of root) q ≡ false → file_at after q ≡ file_at b q)
 
--- After Ok the dataset stands, and its line and its commit's id are told. A refusal has changed nothing, and is the
+-- After Ok the dataset stands, safe from a crash, and its line and its commit's id are told. A refusal has changed nothing, and is the
 -- first whose cause holds.
 abbrev pub CreateEnds : Bool → List (List ℕ) → ℕ → List ℕ → List Line → List Line → Drive → Drive → Result Id Trouble → Type 0
 CreateEnds tells root moment fresh before after old new (Ok id) =
     (id.0 ≡ first_id (config_text fresh root) moment)
     × (after ≡ before ++ created_line root ∷ [])
-    × (IsTrue tells → (create_fault root (present old) ≡ None) × LessTmp (repo_of root) (created root moment fresh (present old)) (present new))
+    × (IsTrue tells → (create_fault root (present old) ≡ None) × LessTmp (repo_of root) (created root moment fresh (present old)) (present new) × IsSafe new)
 CreateEnds tells root moment fresh before after old new (Err (Refused fault)) =
     IsCreateFault fault × (after ≡ before) × (IsTrue tells → (create_fault root (present old) ≡ Some fault) × (new.history ≡ old.history))
 CreateEnds tells root moment fresh before after old new (Err Device) = (after ≡ before) × Rose old.faults new.faults

@@ -11,6 +11,7 @@ use Rattle.datalad_cli.specs.Agree.{Agree}
 use Rattle.datalad_cli.specs.Layout.{repo_of}
 use Rattle.datalad_cli.specs.Words.{misread, dir_word, leads}
 use Rattle.datalad_cli.specs.Creating.{Partly, IsCreateFault, created_line}
+use Rattle.datalad_cli.specs.Writing.{IsSafe}
 use Rattle.datalad_cli.specs.FaultTexts.{fault_text}
 use Rattle.datalad_cli.specs.Acts.{place_or_top, act_objects}
 use Rattle.datalad_cli.specs.Reports.{Tapes, Heard, Says, SaysPart, SomeRose}
@@ -57,10 +58,10 @@ pub record IsCutOff (telling : Telling) (call : Call) (given : Answer) (failure 
 abbrev pub AnyRose : World → World → Type 0
 AnyRose old new = Rose old.drive.faults new.drive.faults ⊎ SomeRose old.tapes new.tapes
 
--- Where the files tell, a call ends as its answer says, unless a count of faults rose or memory was wanting. A refusal
--- has changed nothing.
+-- Where the files tell, a call ends as its answer says, unless a count of faults rose or memory was wanting. What was
+-- done is safe from a crash; a refusal has changed nothing.
 abbrev pub CallEnds : Telling → Call → World → World → Status → Type 0
-CallEnds telling call old new Done = IsTrue telling.files → IsAnswered telling call (answer call (present old.drive)) Done old new
+CallEnds telling call old new Done = IsTrue telling.files → IsAnswered telling call (answer call (present old.drive)) Done old new × IsSafe new.drive
 CallEnds telling call old new (Usage at) =
     IsTrue telling.files
     → IsAnswered telling call (answer call (present old.drive)) (Usage at) old new × (new.drive.history ≡ old.drive.history)

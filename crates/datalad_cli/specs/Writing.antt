@@ -2,7 +2,7 @@
 use Rattle.std.specs.Prelude.{◌≡◌, ℕ, Bool, true, false, IsTrue, ◌||◌, List, [], ◌∷◌, length, Result, Ok, Err, ◌<◌}
 use Rattle.places.specs.Ground.{Ground, stands, stands_below, stands_above}
 use Rattle.file_store.specs.Causes.{Rose}
-use Rattle.file_store.specs.Disk.{Drive}
+use Rattle.file_store.specs.Disk.{Drive, at_rest}
 use Rattle.file_store.specs.Ends.{present}
 use Rattle.file_store.specs.declared.faults.Fault.TheVariants.{Blocked}
 use Rattle.file_store.specs.declared.faults.Trouble.{Trouble}
@@ -27,11 +27,15 @@ middle_files root config settings main =
 abbrev pub IsVacant : List (List ℕ) → Ground → Type 0
 IsVacant root g = (stands g root || stands_below g root) ≡ false
 
--- On a vacant root the dataset stands after Ok, and the only refusal is that of a file above the root.
+-- a crash leaves what stands
+abbrev pub IsSafe : Drive → Type 0
+IsSafe drive = drive.history.latest ≡ at_rest (present drive)
+
+-- On a vacant root the dataset stands after Ok, safe from a crash, and the only refusal is that of a file above the root.
 abbrev pub DatasetEnds : Bool → List (List ℕ) → Parts → Drive → Drive → Result (Unit {0}) Trouble → Type 0
 DatasetEnds tells root parts old new (Ok _) =
     IsTrue tells → IsVacant root (present old) → 0 < length parts.objects
-    → (stands_above (present old) root ≡ false) × LessTmp (repo_of root) (with_dataset root parts (present old)) (present new)
+    → (stands_above (present old) root ≡ false) × LessTmp (repo_of root) (with_dataset root parts (present old)) (present new) × IsSafe new
 DatasetEnds tells root parts old new (Err (Refused fault)) =
     IsPutFault fault
     × (IsTrue tells → IsVacant root (present old) → 0 < length parts.objects
