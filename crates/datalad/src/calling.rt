@@ -1,5 +1,7 @@
 // The call itself.
 ghost use Rattle.std.specs.Prelude.{map, string_bytes};
+ghost use Rattle.datalad_cli.specs.Answer.{call_of};
+ghost use Rattle.datalad_cli.specs.Ends.{telling_of, world_of};
 ghost use Rattle.datalad.specs.Starts.{ExitsBy};
 
 use crate::start::Start;
@@ -7,7 +9,8 @@ use datalad_cli::datalad;
 use file_store::{Files, Sink};
 use std::alloc::Global;
 
-/// One call over these files and outputs. The answer is the exit status: the number of the status by which the call ended.
+/// One call over these files and outputs. The answer is the exit status: the number of the status by which the call
+/// ended.
 pub(crate) fn call<F: Files, O: Sink, E: Sink>(
     alloc: Global,
     start: &Start,
@@ -15,7 +18,10 @@ pub(crate) fn call<F: Files, O: Sink, E: Sink>(
     out: &mut O,
     err: &mut E,
 ) -> u8
-    ensures { ExitsBy (record { files = F.tells; heard = record { out = O.tells; err = E.tells } }) (record { words = map string_bytes start.now.words.items; cwd = start.now.cwd; moment = start.now.moment; fresh = start.now.fresh }) (record { drive = F.drive files.old; tapes = record { out = O.tape out.old; err = E.tape err.old } }) (record { drive = F.drive files.new; tapes = record { out = O.tape out.new; err = E.tape err.new } }) result }
+    ensures { ExitsBy (telling_of F.tells O.tells E.tells)
+        (call_of (map string_bytes start.now.words.items) start.now.cwd start.now.moment start.now.fresh)
+        (world_of (F.drive files.old) (O.tape out.old) (E.tape err.old))
+        (world_of (F.drive files.new) (O.tape out.new) (E.tape err.new)) result }
 {
     let status = datalad(
         alloc,

@@ -26,6 +26,9 @@ pub record Call : Type 0 where
   pub moment : ℕ
   pub fresh : List ℕ
 
+abbrev pub call_of : List (List ℕ) → List (List ℕ) → ℕ → List ℕ → Call
+call_of words cwd moment fresh = record { words = words; cwd = cwd; moment = moment; fresh = fresh }
+
 abbrev pub usage_text : ℕ → List ℕ
 usage_text at = codes "datalad: usage: word " ++ (decimal at ++ codes "\n")
 

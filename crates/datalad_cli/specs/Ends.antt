@@ -2,6 +2,7 @@
 use Rattle.std.specs.Prelude.{◌≡◌, ◌≢◌, ◌⊎◌, ℕ, Bool, IsTrue, List, [], ◌∷◌, Option, Some, None}
 use Rattle.file_store.specs.Causes.{Rose}
 use Rattle.file_store.specs.Disk.{Drive}
+use Rattle.file_store.specs.Tape.{Tape}
 use Rattle.file_store.specs.Ends.{present}
 use Rattle.file_store.specs.declared.faults.Fault.{Fault}
 use Rattle.file_store.specs.declared.faults.Fault.TheVariants.{BadPath}
@@ -28,6 +29,13 @@ pub record World : Type 0 where
 pub record Telling : Type 0 where
   pub files : Bool
   pub heard : Heard
+
+-- the same of files and two outputs
+abbrev pub world_of : Drive → Tape → Tape → World
+world_of drive out err = record { drive = drive; tapes = record { out = out; err = err } }
+
+abbrev pub telling_of : Bool → Bool → Bool → Telling
+telling_of files out err = record { files = files; heard = record { out = out; err = err } }
 
 -- where the words lead
 abbrev pub root_of : Call → Option (List (List ℕ))

@@ -91,7 +91,11 @@ fn write_dataset<F: Files>(
     requires fits { length (text_of repo.now) ≤ repo_limit }
     ensures later { (F.drive files.old).faults ≤ (F.drive files.new).faults }
     ensures ends { DatasetEnds F.tells root.now (parts_of plan) (F.drive files.old) (F.drive files.new) result }
-    ensures left { IsTrue F.tells → IsVacant root.now (present (F.drive files.old)) → Partly root.now (parts_of plan).objects (present (F.drive files.old)) (with_dataset root.now (parts_of plan) (present (F.drive files.old))) (present (F.drive files.new)) }
+    ensures left { IsTrue F.tells → IsVacant root.now (present (F.drive files.old)) → Partly root.now
+        (parts_of plan).objects
+        (present (F.drive files.old))
+        (with_dataset root.now (parts_of plan) (present (F.drive files.old)))
+        (present (F.drive files.new)) }
 {
     let middle = middle(alloc, root, repo, plan.config, plan.settings, plan.main)?;
     let tmp = tmp_place(alloc, repo, 0)?;
@@ -116,11 +120,16 @@ pub fn create<F: Files>(
     lines: &mut Vec<Line>,
 ) -> Result<Id, Trouble>
     ensures later { (F.drive files.old).faults ≤ (F.drive files.new).faults }
-    ensures ends { CreateEnds F.tells place.now moment fresh.now lines.old.items lines.new.items (F.drive files.old) (F.drive files.new) result }
+    ensures ends { CreateEnds F.tells place.now moment fresh.now lines.old.items lines.new.items
+        (F.drive files.old) (F.drive files.new) result }
 
-    // Whatever the answer, each place outside the unfinished writes has what it had or what the dataset has there, but for
-    // a collision of SHA-1 among its objects, and HEAD only with all the rest.
-    ensures left { IsTrue F.tells → Partly place.now (new_parts place.now moment fresh.now).objects (present (F.drive files.old)) (created_or_not place.now moment fresh.now (present (F.drive files.old))) (present (F.drive files.new)) }
+    // Whatever the answer, each place outside the unfinished writes has what it had or what the dataset has there, but
+    // for a collision of SHA-1 among its objects, and HEAD only with all the rest.
+    ensures left { IsTrue F.tells → Partly place.now
+        (new_parts place.now moment fresh.now).objects
+        (present (F.drive files.old))
+        (created_or_not place.now moment fresh.now (present (F.drive files.old)))
+        (present (F.drive files.new)) }
 {
     if files.kind(alloc, place)? != Kind::Absent {
         let place = place.try_clone(alloc)?;

@@ -49,7 +49,8 @@ fn about_two(
     between: &str,
     second: &str,
 ) -> Result<String, AllocError>
-    ensures { IfOk result (λ text. string_bytes text ≡ front.now ++ (first.now ++ (between.now ++ (second.now ++ codes "\n")))) }
+    ensures { IfOk result (λ text. string_bytes text ≡ front.now
+        ++ (first.now ++ (between.now ++ (second.now ++ codes "\n")))) }
 {
     format!(in alloc; "{front}{first}{between}{second}\n")
 }
@@ -62,7 +63,8 @@ fn about_at(
     between: &str,
     at: u64,
 ) -> Result<String, AllocError>
-    ensures { IfOk result (λ text. string_bytes text ≡ front.now ++ (value.now ++ (between.now ++ (decimal at ++ codes "\n")))) }
+    ensures { IfOk result (λ text. string_bytes text ≡ front.now
+        ++ (value.now ++ (between.now ++ (decimal at ++ codes "\n")))) }
 {
     format!(in alloc; "{front}{value}{between}{at}\n")
 }

@@ -142,7 +142,8 @@ fn person(alloc: Global, moment: u64) -> Result<Person, AllocError>
 
 // The body of the first commit.
 fn commit_body(alloc: Global, tree: Id, moment: u64) -> Result<Vec<u8>, AllocError>
-    ensures { IfOk result (λ body. body.items ≡ commit_text tree.0 [] (default_person moment) (default_person moment) [] first_message) }
+    ensures { IfOk result (λ body. body.items ≡ commit_text tree.0 [] (default_person moment)
+        (default_person moment) [] first_message) }
 {
     let commit = Commit {
         tree,

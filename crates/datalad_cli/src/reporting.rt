@@ -97,7 +97,9 @@ pub(crate) fn report<O: Sink, E: Sink>(
 ) -> Status
     ensures out_later { (O.tape out.old).faults ≤ (O.tape out.new).faults }
     ensures err_later { (E.tape err.old).faults ≤ (E.tape err.new).faults }
-    ensures ends { ReportEnds (record { out = O.tells; err = E.tells }) lines.now outcome (record { out = O.tape out.old; err = E.tape err.old }) (record { out = O.tape out.new; err = E.tape err.new }) result }
+    ensures ends { ReportEnds (record { out = O.tells; err = E.tells }) lines.now outcome
+        (record { out = O.tape out.old; err = E.tape err.old })
+        (record { out = O.tape out.new; err = E.tape err.new }) result }
 {
     let text = match lines_text(alloc, lines) {
         Ok(text) => text,

@@ -3,7 +3,8 @@ ghost use Rattle.std.specs.Prelude.{◌≡◌, ◌≤◌, [], map, string_bytes,
 ghost use Rattle.file_store.specs.Ends.{present};
 ghost use Rattle.datalad_cli.specs.Acts.{ActEnds, act_ground, act_objects, place_or_top};
 ghost use Rattle.datalad_cli.specs.Creating.{Partly};
-ghost use Rattle.datalad_cli.specs.Ends.{CallEnds, WordsDecide};
+ghost use Rattle.datalad_cli.specs.Answer.{call_of};
+ghost use Rattle.datalad_cli.specs.Ends.{CallEnds, WordsDecide, telling_of, world_of};
 ghost use Rattle.datalad_cli.specs.Words.{leads};
 
 use crate::creating::create;
@@ -25,8 +26,13 @@ fn act<F: Files>(
 ) -> Result<(), Trouble>
     requires { lines.old.items ≡ [] }
     ensures later { (F.drive files.old).faults ≤ (F.drive files.new).faults }
-    ensures ends { ActEnds F.tells (leads cwd.now word.now) moment fresh.now lines.new.items (F.drive files.old) (F.drive files.new) result }
-    ensures left { IsTrue F.tells → Partly (place_or_top (leads cwd.now word.now)) (act_objects (leads cwd.now word.now) moment fresh.now) (present (F.drive files.old)) (act_ground (leads cwd.now word.now) moment fresh.now (present (F.drive files.old))) (present (F.drive files.new)) }
+    ensures ends { ActEnds F.tells (leads cwd.now word.now) moment fresh.now lines.new.items
+        (F.drive files.old) (F.drive files.new) result }
+    ensures left { IsTrue F.tells → Partly (place_or_top (leads cwd.now word.now))
+        (act_objects (leads cwd.now word.now) moment fresh.now)
+        (present (F.drive files.old))
+        (act_ground (leads cwd.now word.now) moment fresh.now (present (F.drive files.old)))
+        (present (F.drive files.new)) }
 {
     match root_of(alloc, cwd, word)? {
         None => Err(Trouble::Refused(Fault::BadPath { at: 1 })),
@@ -52,8 +58,14 @@ pub fn datalad<F: Files, O: Sink, E: Sink>(
     out: &mut O,
     err: &mut E,
 ) -> Status
-    ensures ends { CallEnds (record { files = F.tells; heard = record { out = O.tells; err = E.tells } }) (record { words = map string_bytes words.now; cwd = cwd.now; moment = moment; fresh = fresh }) (record { drive = F.drive files.old; tapes = record { out = O.tape out.old; err = E.tape err.old } }) (record { drive = F.drive files.new; tapes = record { out = O.tape out.new; err = E.tape err.new } }) result }
-    ensures words { WordsDecide (record { files = F.tells; heard = record { out = O.tells; err = E.tells } }) (record { words = map string_bytes words.now; cwd = cwd.now; moment = moment; fresh = fresh }) (record { drive = F.drive files.old; tapes = record { out = O.tape out.old; err = E.tape err.old } }) (record { drive = F.drive files.new; tapes = record { out = O.tape out.new; err = E.tape err.new } }) result }
+    ensures ends { CallEnds (telling_of F.tells O.tells E.tells)
+        (call_of (map string_bytes words.now) cwd.now moment fresh)
+        (world_of (F.drive files.old) (O.tape out.old) (E.tape err.old))
+        (world_of (F.drive files.new) (O.tape out.new) (E.tape err.new)) result }
+    ensures words { WordsDecide (telling_of F.tells O.tells E.tells)
+        (call_of (map string_bytes words.now) cwd.now moment fresh)
+        (world_of (F.drive files.old) (O.tape out.old) (E.tape err.old))
+        (world_of (F.drive files.new) (O.tape out.new) (E.tape err.new)) result }
 {
     if let Some(at) = misread_at(words) {
         return say_usage(alloc, err, at);

@@ -53,25 +53,29 @@ pub trait Files {
     fn write(&mut self, alloc: Global, place: &Place, bytes: &[u8]) -> Result<(), FileErr>
         ensures later { (drive self.old).faults ≤ (drive self.new).faults }
         ensures ends { WriteEnds tells place.now bytes.now (drive self.old) (drive self.new) result }
-        ensures steps { IsTrue tells → MayStep (IsWritten place.now) (drive self.old).history (drive self.new).history };
+        ensures steps { IsTrue tells → MayStep (IsWritten place.now) (drive self.old).history
+            (drive self.new).history };
 
     /// Adds to the end of the file. An absent file counts as empty.
     fn append(&mut self, alloc: Global, place: &Place, bytes: &[u8]) -> Result<(), FileErr>
         ensures later { (drive self.old).faults ≤ (drive self.new).faults }
         ensures ends { AppendEnds tells place.now bytes.now (drive self.old) (drive self.new) result }
-        ensures steps { IsTrue tells → MayStep (IsWritten place.now) (drive self.old).history (drive self.new).history };
+        ensures steps { IsTrue tells → MayStep (IsWritten place.now) (drive self.old).history
+            (drive self.new).history };
 
     /// Moves the file at `from`. False, with nothing changed, only where none stands there.
     fn rename(&mut self, alloc: Global, from: &Place, to: &Place) -> Result<bool, FileErr>
         ensures later { (drive self.old).faults ≤ (drive self.new).faults }
         ensures ends { RenameEnds tells from.now to.now (drive self.old) (drive self.new) result }
-        ensures steps { IsTrue tells → MayStep (IsRenamed from.now to.now) (drive self.old).history (drive self.new).history };
+        ensures steps { IsTrue tells → MayStep (IsRenamed from.now to.now) (drive self.old).history
+            (drive self.new).history };
 
     /// Removes the file. False, with nothing changed, where none stands there.
     fn remove(&mut self, alloc: Global, place: &Place) -> Result<bool, FileErr>
         ensures later { (drive self.old).faults ≤ (drive self.new).faults }
         ensures ends { RemoveEnds tells place.now (drive self.old) (drive self.new) result }
-        ensures steps { IsTrue tells → MayStep (IsRemoved place.now) (drive self.old).history (drive self.new).history };
+        ensures steps { IsTrue tells → MayStep (IsRemoved place.now) (drive self.old).history
+            (drive self.new).history };
 
     /// After it, a crash leaves what a read sees.
     fn barrier(&mut self, alloc: Global) -> Result<(), FileErr>

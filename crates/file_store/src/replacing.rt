@@ -32,13 +32,17 @@ pub fn replace<F: Files>(
 ) -> Result<(), FileErr>
     requires { tmp.now ≢ place.now }
     ensures later { (F.drive files.old).faults ≤ (F.drive files.new).faults }
-    ensures ends { ReplaceEnds F.tells (only tmp.now place.now bytes.now) (F.drive files.old) (F.drive files.new) result }
+    ensures ends { ReplaceEnds F.tells (only tmp.now place.now bytes.now) (F.drive files.old)
+        (F.drive files.new) result }
 
     // Whatever the answer, each place but the temporary one has what it had, or the file is new.
-    ensures left { IsTrue F.tells → Between (IsOther tmp.now) (IsFile place.now bytes.now) (present (F.drive files.old)) (present (F.drive files.new)) }
+    ensures left { IsTrue F.tells → Between (IsOther tmp.now) (IsFile place.now bytes.now)
+        (present (F.drive files.old)) (present (F.drive files.new)) }
 
     // At each moment a crash leaves at the place what it might have left at the start, or the new bytes.
-    ensures crash { IsTrue F.tells → Since (Allows (IsOther tmp.now) (IsFile place.now bytes.now) (F.drive files.old).history.latest) (F.drive files.old).history (F.drive files.new).history }
+    ensures crash { IsTrue F.tells → Since (Allows (IsOther tmp.now) (IsFile place.now bytes.now)
+        (F.drive files.old).history.latest) (F.drive files.old).history
+        (F.drive files.new).history }
 {
     files.write(alloc, tmp, bytes)?;
     files.barrier(alloc)?;
@@ -55,10 +59,13 @@ pub fn replace_all<F: Files>(
     requires { AreApart list.now }
     ensures later { (F.drive files.old).faults ≤ (F.drive files.new).faults }
     ensures ends { ReplaceEnds F.tells list.now (F.drive files.old) (F.drive files.new) result }
-    ensures left { IsTrue F.tells → Between (IsNoTmp list.now) (IsNew list.now) (present (F.drive files.old)) (present (F.drive files.new)) }
+    ensures left { IsTrue F.tells → Between (IsNoTmp list.now) (IsNew list.now)
+        (present (F.drive files.old)) (present (F.drive files.new)) }
 
     // Where no two have one place, a crash leaves each place old or new.
-    ensures crash { IsTrue F.tells → AreDistinct list.now → Since (Allows (IsNoTmp list.now) (IsNew list.now) (F.drive files.old).history.latest) (F.drive files.old).history (F.drive files.new).history }
+    ensures crash { IsTrue F.tells → AreDistinct list.now → Since
+        (Allows (IsNoTmp list.now) (IsNew list.now) (F.drive files.old).history.latest)
+        (F.drive files.old).history (F.drive files.new).history }
 {
     stage_all(alloc, files, list)?;
     files.barrier(alloc)?;
@@ -70,8 +77,11 @@ pub fn replace_all<F: Files>(
 fn stage_all<F: Files>(alloc: Global, files: &mut F, list: &[Replacement]) -> Result<(), FileErr>
     ensures later { (F.drive files.old).faults ≤ (F.drive files.new).faults }
     ensures ends { StageEnds F.tells list.now (F.drive files.old) (F.drive files.new) result }
-    ensures left { IsTrue F.tells → Between (IsNoTmp list.now) (IsNew list.now) (present (F.drive files.old)) (present (F.drive files.new)) }
-    ensures crash { IsTrue F.tells → Since (Allows (IsNoTmp list.now) (IsNew list.now) (F.drive files.old).history.latest) (F.drive files.old).history (F.drive files.new).history }
+    ensures left { IsTrue F.tells → Between (IsNoTmp list.now) (IsNew list.now)
+        (present (F.drive files.old)) (present (F.drive files.new)) }
+    ensures crash { IsTrue F.tells → Since (Allows (IsNoTmp list.now) (IsNew list.now)
+        (F.drive files.old).history.latest) (F.drive files.old).history
+        (F.drive files.new).history }
 {
     for replacement in list {
         files.write(alloc, &replacement.tmp, replacement.bytes.as_slice())?;
@@ -85,8 +95,11 @@ fn move_all<F: Files>(alloc: Global, files: &mut F, list: &[Replacement]) -> Res
     requires staged { IsTrue F.tells → AreReady list.now (F.drive files.old) }
     ensures later { (F.drive files.old).faults ≤ (F.drive files.new).faults }
     ensures ends { MoveEnds F.tells list.now (F.drive files.old) (F.drive files.new) result }
-    ensures left { IsTrue F.tells → Between (IsNoTmp list.now) (IsNew list.now) (present (F.drive files.old)) (present (F.drive files.new)) }
-    ensures crash { IsTrue F.tells → AreDistinct list.now → Since (Allows (IsNoTmp list.now) (IsNew list.now) (F.drive files.old).history.latest) (F.drive files.old).history (F.drive files.new).history }
+    ensures left { IsTrue F.tells → Between (IsNoTmp list.now) (IsNew list.now)
+        (present (F.drive files.old)) (present (F.drive files.new)) }
+    ensures crash { IsTrue F.tells → AreDistinct list.now → Since
+        (Allows (IsNoTmp list.now) (IsNew list.now) (F.drive files.old).history.latest)
+        (F.drive files.old).history (F.drive files.new).history }
 {
     for replacement in list {
         files.rename(alloc, &replacement.tmp, &replacement.place)?;

@@ -11,7 +11,8 @@ use std::alloc::{AllocError, Global};
 
 // `objects/aa/REST`
 fn object_path(alloc: Global, id: Id) -> Result<String, AllocError>
-    ensures text { IfOk result (λ path. string_bytes path ≡ codes "objects/" ++ (take 2 (hex_of id.0) ++ 47 ∷ drop 2 (hex_of id.0))) }
+    ensures text { IfOk result (λ path. string_bytes path ≡ codes "objects/"
+        ++ (take 2 (hex_of id.0) ++ 47 ∷ drop 2 (hex_of id.0))) }
     ensures names { IfOk result (λ path. pieces (string_bytes path) ≡ object_names (hex_of id.0)) }
     ensures path { IfOk result (λ path. IsTrue (is_path (string_bytes path))) }
     ensures size { IfOk result (λ path. length (string_bytes path) ≡ 49) }

@@ -35,7 +35,8 @@ fn refusal(
     object: &NewObject,
     found: &[u8],
 ) -> Result<Option<Fault>, AllocError>
-    ensures fault { (repo : List (List ℕ)) → place.now ≡ place_in repo object.now → IfOk result (λ fault. fault ≡ found_fault repo object.now found.now) }
+    ensures fault { (repo : List (List ℕ)) → place.now ≡ place_in repo object.now → IfOk result
+        (λ fault. fault ≡ found_fault repo object.now found.now) }
     ensures kind { IfOk result (λ fault. IfSome fault IsFound) }
 {
     let text = object.text(alloc)?;
@@ -60,7 +61,8 @@ fn look_at<F: Files>(
 ) -> Result<(), Trouble>
     requires { length (text_of repo.now) ≤ object_limit }
     ensures later { (F.drive files.old).faults ≤ (F.drive files.new).faults }
-    ensures ends { LookEnds F.tells repo.now object.now list.old.items list.new.items (F.drive files.old) (F.drive files.new) result }
+    ensures ends { LookEnds F.tells repo.now object.now list.old.items list.new.items
+        (F.drive files.old) (F.drive files.new) result }
 {
     let place = object_place(alloc, repo, &object.id())?;
     match files.read(alloc, &place)? {

@@ -52,7 +52,9 @@ pub fn put_all<F: Files>(
     ensures ends { PutEnds F.tells repo.now objects.now (F.drive files.old) (F.drive files.new) result }
 
     // Whatever the answer, each place outside the unfinished writes has what it had, or is one of the objects.
-    ensures left { IsTrue F.tells → Between (λ q. in_tmp repo.now q ≡ false) (IsObject repo.now objects.now) (present (F.drive files.old)) (present (F.drive files.new)) }
+    ensures left { IsTrue F.tells → Between (λ q. in_tmp repo.now q ≡ false)
+        (IsObject repo.now objects.now) (present (F.drive files.old))
+        (present (F.drive files.new)) }
 {
     if objects.is_empty() {
         return Ok(());

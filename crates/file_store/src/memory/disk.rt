@@ -98,7 +98,8 @@ impl MemDisk {
         bytes: &[u8],
     ) -> Result<(), AllocError>
         requires { is_shut (ground_in self.old) place.now ≡ false }
-        ensures ok { OnOk result (history_in self.new ≡ next (history_in self.old) (wrote place.now bytes.now (history_in self.old).latest)) }
+        ensures ok { OnOk result (history_in self.new ≡ next (history_in self.old)
+            (wrote place.now bytes.now (history_in self.old).latest)) }
         ensures err { OnErr result (history_in self.new ≡ history_in self.old) }
     {
         let call = Call::Write {
@@ -122,7 +123,8 @@ impl MemDisk {
         bytes: &[u8],
     ) -> Result<(), AllocError>
         requires { is_shut (ground_in self.old) place.now ≡ false }
-        ensures ok { OnOk result (history_in self.new ≡ next (history_in self.old) (appended place.now bytes.now (history_in self.old).latest)) }
+        ensures ok { OnOk result (history_in self.new ≡ next (history_in self.old)
+            (appended place.now bytes.now (history_in self.old).latest)) }
         ensures err { OnErr result (history_in self.new ≡ history_in self.old) }
     {
         let mut whole = copied(alloc, self.current.get(place))?;
@@ -149,7 +151,8 @@ impl MemDisk {
     ) -> Result<(), AllocError>
         requires stands { stands (ground_in self.old) from.now ≡ true }
         requires free { is_shut (ground_in self.old) to.now ≡ false }
-        ensures ok { OnOk result (history_in self.new ≡ next (history_in self.old) (renamed from.now to.now (history_in self.old).latest)) }
+        ensures ok { OnOk result (history_in self.new ≡ next (history_in self.old)
+            (renamed from.now to.now (history_in self.old).latest)) }
         ensures err { OnErr result (history_in self.new ≡ history_in self.old) }
     {
         let moved = self.current.get(from).unwrap().as_slice().to_vec(alloc)?;
@@ -165,7 +168,8 @@ impl MemDisk {
     }
 
     pub(crate) fn remove(&mut self, alloc: Global, place: &Place) -> Result<(), AllocError>
-        ensures ok { OnOk result (history_in self.new ≡ next (history_in self.old) (removed place.now (history_in self.old).latest)) }
+        ensures ok { OnOk result (history_in self.new ≡ next (history_in self.old)
+            (removed place.now (history_in self.old).latest)) }
         ensures err { OnErr result (history_in self.new ≡ history_in self.old) }
     {
         self.calls.push(Call::Remove {
@@ -176,7 +180,8 @@ impl MemDisk {
     }
 
     pub(crate) fn barrier(&mut self) -> Result<(), AllocError>
-        ensures ok { OnOk result (history_in self.new ≡ next (history_in self.old) (synced (history_in self.old).latest)) }
+        ensures ok { OnOk result (history_in self.new ≡ next (history_in self.old)
+            (synced (history_in self.old).latest)) }
         ensures err { OnErr result (history_in self.new ≡ history_in self.old) }
     {
         self.calls.push(Call::Barrier)?;
@@ -186,7 +191,8 @@ impl MemDisk {
 
 // The bytes of a file. An absent one counts as empty.
 fn copied(alloc: Global, file: Option<&Vec<u8>>) -> Result<Vec<u8>, AllocError>
-    ensures { IfOk result (λ copy. copy.items ≡ unwrap_or (option_map (λ bytes. bytes.items) (option_copied file.entry)) []) }
+    ensures { IfOk result (λ copy. copy.items ≡ unwrap_or
+        (option_map (λ bytes. bytes.items) (option_copied file.entry)) []) }
 {
     match file {
         Some(bytes) => Ok(bytes.as_slice().to_vec(alloc)?),

@@ -148,7 +148,8 @@ impl Files for MemFiles {
         buffer: &mut [u8],
     ) -> Result<usize, FileErr>
         ensures later { (drive_of self.old).faults ≤ (drive_of self.new).faults }
-        ensures ends { PartEnds true place.now from buffer.old buffer.new (drive_of self.old) (drive_of self.new) result }
+        ensures ends { PartEnds true place.now from buffer.old buffer.new (drive_of self.old)
+            (drive_of self.new) result }
         ensures turn { ReadsByTurn self.old self.new result }
     {
         if self.plan.next() != Turn::Works {
@@ -174,7 +175,8 @@ impl Files for MemFiles {
     fn write(&mut self, alloc: Global, place: &Place, bytes: &[u8]) -> Result<(), FileErr>
         ensures later { (drive_of self.old).faults ≤ (drive_of self.new).faults }
         ensures ends { WriteEnds true place.now bytes.now (drive_of self.old) (drive_of self.new) result }
-        ensures steps { IsTrue true → MayStep (IsWritten place.now) (drive_of self.old).history (drive_of self.new).history }
+        ensures steps { IsTrue true → MayStep (IsWritten place.now) (drive_of self.old).history
+            (drive_of self.new).history }
         ensures turn { ChangesByTurn (writes place.now bytes.now) self.old self.new result }
     {
         let turn = self.plan.next();
@@ -193,7 +195,8 @@ impl Files for MemFiles {
     fn append(&mut self, alloc: Global, place: &Place, bytes: &[u8]) -> Result<(), FileErr>
         ensures later { (drive_of self.old).faults ≤ (drive_of self.new).faults }
         ensures ends { AppendEnds true place.now bytes.now (drive_of self.old) (drive_of self.new) result }
-        ensures steps { IsTrue true → MayStep (IsWritten place.now) (drive_of self.old).history (drive_of self.new).history }
+        ensures steps { IsTrue true → MayStep (IsWritten place.now) (drive_of self.old).history
+            (drive_of self.new).history }
         ensures turn { ChangesByTurn (appends place.now bytes.now) self.old self.new result }
     {
         let turn = self.plan.next();
@@ -212,7 +215,8 @@ impl Files for MemFiles {
     fn rename(&mut self, alloc: Global, from: &Place, to: &Place) -> Result<bool, FileErr>
         ensures later { (drive_of self.old).faults ≤ (drive_of self.new).faults }
         ensures ends { RenameEnds true from.now to.now (drive_of self.old) (drive_of self.new) result }
-        ensures steps { IsTrue true → MayStep (IsRenamed from.now to.now) (drive_of self.old).history (drive_of self.new).history }
+        ensures steps { IsTrue true → MayStep (IsRenamed from.now to.now)
+            (drive_of self.old).history (drive_of self.new).history }
         ensures turn { ChangesByTurn (renames from.now to.now) self.old self.new result }
     {
         let turn = self.plan.next();
@@ -236,7 +240,8 @@ impl Files for MemFiles {
     fn remove(&mut self, alloc: Global, place: &Place) -> Result<bool, FileErr>
         ensures later { (drive_of self.old).faults ≤ (drive_of self.new).faults }
         ensures ends { RemoveEnds true place.now (drive_of self.old) (drive_of self.new) result }
-        ensures steps { IsTrue true → MayStep (IsRemoved place.now) (drive_of self.old).history (drive_of self.new).history }
+        ensures steps { IsTrue true → MayStep (IsRemoved place.now) (drive_of self.old).history
+            (drive_of self.new).history }
         ensures turn { ChangesByTurn (removes place.now) self.old self.new result }
     {
         let turn = self.plan.next();

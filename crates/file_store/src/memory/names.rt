@@ -17,7 +17,8 @@ pub(crate) fn kinds_below(
     files: &BTreeMap<Place, Vec<u8>>,
     root: &Place,
 ) -> Result<BTreeMap<String, Kind>, AllocError>
-    ensures kinds { IfOk result (λ kinds. (name : List ℕ) → get_by_text kinds name ≡ seen_among root.now name (keys files.now)) }
+    ensures kinds { IfOk result (λ kinds. (name : List ℕ) → get_by_text kinds name ≡ seen_among
+        root.now name (keys files.now)) }
     ensures places { IfOk result (λ _. AllByRecursion IsPlace (keys files.now)) }
 {
     let mut kinds = BTreeMap::new(alloc);
@@ -35,7 +36,8 @@ fn note(
     place: &Place,
 ) -> Result<(), AllocError>
     ensures place { IsPlace place.now }
-    ensures noted { OnOk result ((name : List ℕ) → get_by_text kinds.new name ≡ seen root.now name (get_by_text kinds.old name) place.now) }
+    ensures noted { OnOk result ((name : List ℕ) → get_by_text kinds.new name ≡ seen root.now name
+        (get_by_text kinds.old name) place.now) }
 {
     let _text = place.as_str();
     if !root.is_above(place) {
@@ -50,7 +52,8 @@ fn note(
 }
 
 fn path_below(alloc: Global, root: &Place, place: &Place) -> Result<Option<String>, AllocError>
-    ensures { IfOk result (λ found. MatchOption found (¬ (IsAtOrAbove root.now place.now)) (λ path. IsPathBelow root.now place.now (string_bytes path))) }
+    ensures { IfOk result (λ found. MatchOption found (¬ (IsAtOrAbove root.now place.now))
+        (λ path. IsPathBelow root.now place.now (string_bytes path))) }
 {
     place.path_below(alloc, root).map_err(|_| AllocError)
 }
