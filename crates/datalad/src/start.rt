@@ -92,12 +92,12 @@ fn place_of(alloc: Global, text: &str) -> Result<Place, Failure>
 }
 
 // The whole seconds since 1970.
-fn seconds_of(time: SystemTime) -> Result<u64, Failure>
-    ensures { IfOk result (IsSeconds (system_time_nanos time)) }
+fn seconds_of(time: SystemTime) -> u64
+    ensures { IsSeconds (system_time_nanos time) result }
 {
     match time.duration_since(SystemTime::UNIX_EPOCH) {
-        Ok(passed) => Ok(passed.as_secs()),
-        Err(_) => Err(Failure::Host),
+        Ok(passed) => passed.as_secs(),
+        Err(_) => unreachable!(),
     }
 }
 
@@ -120,7 +120,7 @@ pub(crate) fn begin(rt: &HostRuntime) -> Result<Start, Failure> {
     Ok(Start {
         words: after_the_name(rt.alloc(), env::args(rt)?.collect(rt.alloc())?)?,
         cwd: working_directory(rt)?,
-        moment: seconds_of(SystemTime::now(rt)?)?,
+        moment: seconds_of(SystemTime::now(rt)?),
         fresh: random_bytes(rt)?,
     })
 }
