@@ -1,5 +1,7 @@
 -- How the program begins, and how it ends.
-use Rattle.std.specs.Prelude.{◌≡◌, ℕ, ◌*◌, ◌+◌, ◌^◌, ◌≤◌, ◌<◌, List}
+use Rattle.std.specs.Prelude.{◌≡◌, ◌↔◌, ℕ, ◌*◌, ◌+◌, ◌^◌, ◌≤◌, ◌<◌, List}
+use Rattle.std.specs.declared.io.ErrorKind.{ErrorKind}
+use Rattle.std.specs.declared.io.ErrorKind.TheVariants.{OutOfMemory}
 use Rattle.datalad_cli.specs.Answer.{Call, device_text, memory_text}
 use Rattle.datalad_cli.specs.Codes.{code_of}
 use Rattle.datalad_cli.specs.Ends.{World, Telling, CallEnds, WordsDecide}
@@ -12,6 +14,10 @@ use Rattle.datalad.specs.declared.start.Failure.TheVariants.{Host, NoMemory as N
 pub record IsSeconds (nanos seconds : ℕ) : Type 0 where
   pub passed : seconds * 10 ^ 9 ≤ nanos
   pub whole : nanos < (seconds + 1) * 10 ^ 9
+
+-- it is want of memory exactly where the host's error is
+abbrev pub IsFailureOf : ErrorKind → Failure → Type 0
+IsFailureOf kind failure = (failure ≡ NoMemoryToBegin) ↔ (kind ≡ OutOfMemory)
 
 -- a program that can't begin ends as if a device had failed, or for want of memory
 abbrev pub ending : Failure → Status

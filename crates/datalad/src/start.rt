@@ -39,6 +39,11 @@ impl From<AllocError> for Failure {
 }
 
 impl From<io::Error> for Failure {
+    ghost use Rattle.std.specs.IoError.{error_kind};
+    ghost use Rattle.datalad.specs.Starts.{IsFailureOf};
+
+    ghost from_gives = { λ e failure. IsFailureOf (error_kind e) failure };
+
     fn from(e: io::Error) -> Self {
         if e.kind() == ErrorKind::OutOfMemory {
             return Failure::NoMemory;
