@@ -15,7 +15,7 @@ pub record IsSeconds (nanos seconds : ℕ) : Type 0 where
   pub passed : seconds * 10 ^ 9 ≤ nanos
   pub whole : nanos < (seconds + 1) * 10 ^ 9
 
--- it is want of memory exactly where the host's error is
+-- an error of the host is want of memory exactly where its kind says so
 abbrev pub IsFailureOf : ErrorKind → Failure → Type 0
 IsFailureOf kind failure = (failure ≡ NoMemoryToBegin) ↔ (kind ≡ OutOfMemory)
 

@@ -1,4 +1,4 @@
-// The call itself.
+// One call of the program, over any files and outputs, and the number by which it exits.
 ghost use Rattle.std.specs.Prelude.{map, string_bytes};
 ghost use Rattle.datalad_cli.specs.Answer.{call_of};
 ghost use Rattle.datalad_cli.specs.Ends.{telling_of, world_of};

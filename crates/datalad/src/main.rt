@@ -5,7 +5,7 @@ mod calling;
 mod start;
 
 use crate::calling::call;
-use crate::start::{Failure, Start, begin};
+use crate::start::{Failure, begin};
 use host_edge::{HostFiles, HostSink};
 use std::process::ExitCode;
 

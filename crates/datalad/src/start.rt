@@ -96,7 +96,7 @@ fn place_of(alloc: Global, text: &str) -> Result<Place, Failure>
     }
 }
 
-// The whole seconds since 1970.
+// The whole seconds since 1970. The clock gives no time before that.
 fn seconds_of(time: SystemTime) -> u64
     ensures { IsSeconds (system_time_nanos time) result }
 {
