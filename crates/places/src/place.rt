@@ -22,10 +22,10 @@ pub struct Place {
 }
 
 impl Model for Place {
-    ghost use Rattle.std.specs.Prelude.{List, ℕ, string_bytes};
-    ghost use Rattle.places.specs.Names.{names_of, IsStored};
+    ghost use Rattle.std.specs.Prelude.{string_bytes};
+    ghost use Rattle.places.specs.Names.{Names, names_of, IsStored};
 
-    ghost Value = { List (List ℕ) };
+    ghost Value = { Names };
 
     ghost view = { λ p. names_of (string_bytes p.text) };
 

@@ -1,0 +1,3 @@
+// Rows that no clause says.
+mod faults;
+mod lines;
