@@ -1,29 +1,17 @@
 -- Which texts are read as objects' texts.
-use Rattle.std.proofs.Common.{◌≡◌, ℕ, ◌+◌, ◌<◌, ◌≤◌, Bool, true, false, ◌||◌, inl, inr, List, [], ◌∷◌, ◌++◌, length, take, drop, get_or, Option, Some, None, refl, sym, ap, ◌∙◌, arith, append_assoc, length-append}
-use Rattle.std.specs.Prelude.{bytes_eq, decimal, MatchOption}
-use denote.Ref.{Bor}
+use Rattle.std.proofs.Common.{◌≡◌, ℕ, ◌+◌, ◌<◌, ◌≤◌, Bool, true, false, ◌||◌, inl, inr, List, [], ◌∷◌, ◌++◌, length, drop, get_or, Some, None, refl, sym, ap, ◌∙◌, arith, append_assoc, length-append}
+use Rattle.std.specs.Prelude.{bytes_eq, decimal}
 use Rattle.std.specs.Bool.{Decides}
 use Rattle.std.specs.List.{position, position_or_len}
 use Rattle.std.proofs.lemmas.Bool.{cases_lt, false_from_ne_true, false≢true}
-use Rattle.std.proofs.lemmas.List.{append_cancel_left, append_cancel_right, take-append-drop}
+use Rattle.std.proofs.lemmas.List.{append_cancel_left, append_cancel_right}
 use Rattle.std.proofs.lemmas.List.Sums.{fails_before_first}
 use Rattle.std.proofs.lemmas.Slice.Eq.{bytes_eq-Decides}
-use Rattle.std.proofs.Math.Seq.{get_or-append_seam, take-append_seam}
+use Rattle.std.proofs.Math.Seq.{get_or-append_seam}
 use Rattle.git_objects.specs.Kinds.{kind_text, header_of, text_of}
 use Rattle.git_objects.specs.Readings.{is_nul, after_nul, is_text_of, is_object_text, IsNoHeader}
 use Rattle.git_objects.specs.declared.objects.ObjKind.{ObjKind}
 use Rattle.git_objects.specs.declared.objects.ObjKind.TheVariants.{Blob, Tree, Commit, Tag}
-
--- WHAT FOLLOWS a text at the front
-pub front_cut : (text front : List ℕ) (r : Option (Bor (List ℕ)))
-    → MatchOption r (bytes_eq (take (length front) text) front ≡ false) (λ x. (bytes_eq (take (length front) text) front ≡ true) × (x.now ≡ drop (length front) text) × (length x.now + length front ≡ length text))
-    → MatchOption r ((rest : List ℕ) → text ≡ front ++ rest → ⊥) (λ x. text ≡ front ++ x.now)
-front_cut text front None h = λ rest e.
-    let same : take (length front) text ≡ front = ap (take (length front)) e ∙ take-append_seam front rest in
-    false≢true (sym h ∙ (bytes_eq-Decides (take (length front) text) front).1 same)
-front_cut text front (Some x) h =
-    let same : take (length front) text ≡ front = (bytes_eq-Decides (take (length front) text) front).0 h.0 in
-    sym (take-append-drop (length front) text) ∙ ap (λ (z : List ℕ). z ++ drop (length front) text) same ∙ ap (λ (z : List ℕ). front ++ z) (sym h.1)
 
 -- THE LAST BYTE of a header
 pub header_end : (kind : ObjKind) (size : ℕ) (rest : List ℕ) (r : Bool) → r ≡ bytes_eq rest (0 ∷ []) → Decides r (kind_text kind ++ 32 ∷ (decimal size ++ rest) ≡ header_of kind size)
@@ -59,13 +47,13 @@ differs : (text : List ℕ) (kind : ObjKind) → (text ≡ text_of kind (after_n
 differs text kind h = false_from_ne_true _ (λ e. h ((bytes_eq-Decides text _).0 e))
 
 -- A TEXT WITHOUT NUL
-position_none : (text : List ℕ) → position is_nul text ≡ None → length text ≤ position_or_len is_nul text
+pub position_none : (text : List ℕ) → position is_nul text ≡ None → length text ≤ position_or_len is_nul text
 position_none text h = elim (cases_lt (position_or_len is_nul text) (length text)) [
   | inl lt ↦ absurd (grind (arith, h, lt))
   | inr le ↦ le
 ]
 
-nul_inside : (text front body : List ℕ) → length text ≤ position_or_len is_nul text → text ≡ front ++ 0 ∷ body → ⊥
+pub nul_inside : (text front body : List ℕ) → length text ≤ position_or_len is_nul text → text ≡ front ++ 0 ∷ body → ⊥
 nul_inside text front body h e =
     let lt : length front < length text = omega (arith, ap length e, length-append front (0 ∷ body)) in
     let at : get_or text (length front) 1 ≡ 0 = ap (λ (z : List ℕ). get_or z (length front) 1) e ∙ get_or-append_seam front 0 body 1 in
@@ -78,7 +66,7 @@ without_nul text h = no_kind text (λ kind. differs text kind (λ e.
     (e ∙ append_assoc (kind_text kind ++ 32 ∷ decimal (length (after_nul text))) (0 ∷ []) (after_nul text))))
 
 -- A TEXT CUT after its first NUL
-position_some : (text : List ℕ) (k : ℕ) → position is_nul text ≡ Some k → position_or_len is_nul text ≡ k
+pub position_some : (text : List ℕ) (k : ℕ) → position is_nul text ≡ Some k → position_or_len is_nul text ≡ k
 position_some text k h = elim (cases_lt (position_or_len is_nul text) (length text)) [
   | inl lt ↦ grind (arith, h, lt)
   | inr le ↦ absurd (grind (arith, h, le))

@@ -1,5 +1,5 @@
 -- Entries in order, no directory with a file's name: that makes a tree, and each tree has both.
-use Rattle.std.proofs.Common.{◌≡◌, ℕ, zero, suc, ◌+◌, Bool, true, false, not, ◌&&◌, ◌||◌, List, [], ◌∷◌, ◌++◌, length, get_or, refl, sym, ap, subst, ◌∙◌, append-nil, length-append, arith}
+use Rattle.std.proofs.Common.{◌≡◌, ℕ, zero, suc, ◌+◌, ◌-◌, ◌<◌, Bool, true, false, not, ◌&&◌, ◌||◌, List, [], ◌∷◌, ◌++◌, length, get_or, refl, sym, ap, subst, ◌∙◌, append-nil, length-append, arith}
 use Rattle.std.specs.Prelude.{◌==◌, ◌↔◌, IsTrue, bytes_eq}
 use Rattle.std.specs.declared.cmp.Ordering.{Ordering}
 use Rattle.std.specs.declared.cmp.Ordering.TheVariants.{Less, Equal, Greater}
@@ -8,7 +8,7 @@ use Rattle.std.specs.List.{IsAllAdjacentAnswer, list_all, list_any}
 use Rattle.std.specs.Ordering.{nat_cmp, is_lt}
 use Rattle.std.proofs.lemmas.Bool.{and_parts}
 use Rattle.std.proofs.lemmas.Cmp.{nat_list_cmp_total, tied_itself}
-use Rattle.std.proofs.lemmas.List.Folds.{list_any-append}
+use Rattle.std.proofs.lemmas.List.Folds.{list_any-append, list_all-append}
 use Rattle.std.proofs.lemmas.Slice.Eq.{bytes_eq-Decides}
 use Rattle.places.specs.Names.{slash, is_name}
 use Rattle.places.proofs.Texts.{facts, or_neither, not_true}
@@ -147,8 +147,8 @@ pub record TreeParts (e : TreeEntry) (es : List TreeEntry) : Type 0 where
   pub before : list_all (is_before e) es ≡ true
   pub rest : is_tree es ≡ true
 
-parts_of : (e : TreeEntry) (es : List TreeEntry) → is_tree (e ∷ es) ≡ true → TreeParts e es
-parts_of e es h =
+pub tree_parts : (e : TreeEntry) (es : List TreeEntry) → is_tree (e ∷ es) ≡ true → TreeParts e es
+tree_parts e es h =
     let outer = and_parts (is_entry e && list_all (is_before e) es) (is_tree es) h in
     let inner = and_parts (is_entry e) (list_all (is_before e) es) outer.0 in
     record { named = inner.0; before = inner.1; rest = outer.1 }
@@ -156,20 +156,20 @@ parts_of e es h =
 pub named_from_tree : (es : List TreeEntry) → is_tree es ≡ true → list_all is_entry es ≡ true
 named_from_tree [] h = refl
 named_from_tree (e ∷ es) h =
-    let parts = parts_of e es h in
+    let parts = tree_parts e es h in
     both (is_entry e) (list_all is_entry es) parts.named (named_from_tree es parts.rest)
 
 pub ascending_from_tree : (es : List TreeEntry) → is_tree es ≡ true → IsAscending es
 ascending_from_tree [] h k d lt = absurd (omega arith)
 ascending_from_tree (e ∷ []) h k d lt = absurd (omega arith)
 ascending_from_tree (e ∷ f ∷ es) h zero d lt =
-    let first = and_parts (is_before e f) (list_all (is_before e) es) (parts_of e (f ∷ es) h).before in
+    let first = and_parts (is_before e f) (list_all (is_before e) es) (tree_parts e (f ∷ es) h).before in
     (and_parts (is_below e f) (not (bytes_eq e.name f.name)) first.0).0
 ascending_from_tree (e ∷ f ∷ es) h (suc k) d lt =
     let up : suc k + 1 ≡ suc (k + 1) = omega arith in
-    rw up (ascending_from_tree (f ∷ es) (parts_of e (f ∷ es) h).rest k d (omega arith))
+    rw up (ascending_from_tree (f ∷ es) (tree_parts e (f ∷ es) h).rest k d (omega arith))
 
-whole_name : (e : TreeEntry) → is_entry e ≡ true → list_any (λ b. b == slash) e.name ≡ false
+pub whole_name : (e : TreeEntry) → is_entry e ≡ true → list_any (λ b. b == slash) e.name ≡ false
 unfolding is_entry
 whole_name e h =
     let outer = and_parts (is_name e.name && not (bytes_eq e.name _)) (not (bytes_eq e.name _)) h in
@@ -189,7 +189,7 @@ own_key true name e h =
     let same = ap length h in
     omega arith
 
-names_differ : (e f : TreeEntry) → is_before e f ≡ true → e.name ≡ f.name → ⊥
+pub names_differ : (e f : TreeEntry) → is_before e f ≡ true → e.name ≡ f.name → ⊥
 names_differ e f h same =
     let parts = and_parts (is_below e f) (not (bytes_eq e.name f.name)) h in
     never (bytes_eq e.name f.name) (bytes_same e.name f.name same) (not_true (bytes_eq e.name f.name) parts.1)
@@ -223,7 +223,7 @@ still_no_twins e all (f ∷ es) named before twins =
 pub no_twins_from_tree : (es : List TreeEntry) → is_tree es ≡ true → has_twins es ≡ false
 no_twins_from_tree [] h = refl
 no_twins_from_tree (e ∷ es) h =
-    let parts = parts_of e es h in
+    let parts = tree_parts e es h in
     neither (is_twin (e ∷ es) e) (list_any (is_twin (e ∷ es)) es) (first_no_twin e es parts.named parts.before)
     (still_no_twins e es es (named_from_tree es parts.rest) parts.before (no_twins_from_tree es parts.rest))
 
@@ -245,3 +245,90 @@ pub ascending_answer : (es : List TreeEntry) (r : Bool) → IsAllAdjacentAnswer 
 ascending_answer es true h = (λ t k d lt. sym (h k d lt), λ up. refl)
 ascending_answer [] false h = (λ t. cc t, λ up. absurd (omega (arith, h.1)))
 ascending_answer (e ∷ es) false h = (λ t. cc t, λ up. never (is_below (get_or (e ∷ es) h.0 e) (get_or (e ∷ es) (h.0 + 1) e)) (up h.0 e h.1) (sym (h.2 e)))
+
+-- ---- one more entry
+
+-- it is after all where it is after the last one
+pub below_last : (es : List TreeEntry) (last e d : TreeEntry) → is_tree es ≡ true → last ≡ get_or es (length es - 1) d → is_below last e ≡ true → list_all (λ f. is_below f e) es ≡ true
+below_last [] last e d h is below = refl
+below_last (f ∷ []) last e d h is below = both (is_below f e) true (ap (λ (z : TreeEntry). is_below z e) (sym is) ∙ below) refl
+below_last (f ∷ g ∷ es) last e d h is below =
+    let parts = tree_parts f (g ∷ es) h in
+    let first = (and_parts (is_below f g) (not (bytes_eq f.name g.name)) (and_parts (is_before f g) (list_all (is_before f) es) parts.before).0).0 in
+    let n : suc (suc (length es)) - 1 ≡ suc (suc (length es) - 1) = omega arith in
+    let more = below_last (g ∷ es) last e d parts.rest (is ∙ ap (λ (k : ℕ). get_or (f ∷ g ∷ es) k d) n) below in
+    both (is_below f e) (list_all (λ f. is_below f e) (g ∷ es)) (below_trans f g e first (and_parts (is_below g e) (list_all (λ f. is_below f e) es) more).0) more
+
+pub before_from_below : (all es : List TreeEntry) (e : TreeEntry) → ((key : List ℕ) → has_key key es ≡ true → has_key key all ≡ true)
+    → list_all (λ f. is_below f e) es ≡ true → is_twin all e ≡ false → list_all (λ f. is_before f e) es ≡ true
+before_from_below all [] e within below twin = refl
+before_from_below all (f ∷ es) e within below twin =
+    let p = and_parts (is_below f e) (list_all (λ f. is_below f e) es) below in
+    let there = within (sort_key f) (some_first (bytes_eq (sort_key f) (sort_key f)) (has_key (sort_key f) es) (bytes_same (sort_key f) (sort_key f) refl)) in
+    both (is_before f e) (list_all (λ f. is_before f e) es)
+    (both (is_below f e) (not (bytes_eq f.name e.name)) p.0 (not_false (bytes_eq f.name e.name) (pair_apart all f e p.0 twin there)))
+    (before_from_below all es e (λ key k. within key (some_later (bytes_eq (sort_key f) key) (has_key key es) k)) p.1 twin)
+
+pub tree_push : (es : List TreeEntry) (e : TreeEntry) → is_tree es ≡ true → is_entry e ≡ true → list_all (λ f. is_before f e) es ≡ true → is_tree (es ++ e ∷ []) ≡ true
+tree_push [] e h named before = both (is_entry e && true) true (both (is_entry e) true named refl) refl
+tree_push (f ∷ es) e h named before =
+    let parts = tree_parts f es h in
+    let p = and_parts (is_before f e) (list_all (λ f. is_before f e) es) before in
+    let ahead : list_all (is_before f) (es ++ e ∷ []) ≡ true = list_all-append (is_before f) es (e ∷ []) ∙ both (list_all (is_before f) es) (is_before f e && true) parts.before (both (is_before f e) true p.0 refl) in
+    both (is_entry f && list_all (is_before f) (es ++ e ∷ [])) (is_tree (es ++ e ∷ []))
+    (both (is_entry f) (list_all (is_before f) (es ++ e ∷ [])) parts.named ahead) (tree_push es e parts.rest named p.1)
+
+pub record Pushed (es : List TreeEntry) (e : TreeEntry) : Type 0 where
+  pub tree : is_tree es ≡ true
+  pub named : is_entry e ≡ true
+  pub before : list_all (λ f. is_before f e) es ≡ true
+
+pub tree_pushed : (es : List TreeEntry) (e : TreeEntry) → is_tree (es ++ e ∷ []) ≡ true → Pushed es e
+tree_pushed [] e h = record { tree = refl; named = (tree_parts e [] h).named; before = refl }
+tree_pushed (f ∷ es) e h =
+    let parts = tree_parts f (es ++ e ∷ []) h in
+    let more = tree_pushed es e parts.rest in
+    let ahead = and_parts (list_all (is_before f) es) (is_before f e && true) (sym (list_all-append (is_before f) es (e ∷ [])) ∙ parts.before) in
+    record {
+      tree = both (is_entry f && list_all (is_before f) es) (is_tree es) (both (is_entry f) (list_all (is_before f) es) parts.named ahead.0) more.tree;
+      named = more.named;
+      before = both (is_before f e) (list_all (λ f. is_before f e) es) (and_parts (is_before f e) true ahead.1).0 more.before;
+    }
+
+no_key_before : (es : List TreeEntry) (e : TreeEntry) → is_entry e ≡ true → list_all (λ f. is_before f e) es ≡ true → has_key e.name es ≡ false
+no_key_before [] e named before = refl
+no_key_before (f ∷ es) e named before =
+    let p = and_parts (is_before f e) (list_all (λ f. is_before f e) es) before in
+    neither (bytes_eq (sort_key f) e.name) (has_key e.name es)
+    (bytes_differ (sort_key f) e.name (key_apart (is_dir f.mode) f.name e named (names_differ f e p.0))) (no_key_before es e named p.1)
+
+last_below : (es : List TreeEntry) (last e d : TreeEntry) → 0 < length es → last ≡ get_or es (length es - 1) d → list_all (λ f. is_before f e) es ≡ true → is_below last e ≡ true
+last_below [] last e d some is h = absurd (omega arith)
+last_below (f ∷ []) last e d some is h =
+    let p = and_parts (is_before f e) true h in
+    ap (λ (z : TreeEntry). is_below z e) is ∙ (and_parts (is_below f e) (not (bytes_eq f.name e.name)) p.0).0
+last_below (f ∷ g ∷ es) last e d some is h =
+    let n : suc (suc (length es)) - 1 ≡ suc (suc (length es) - 1) = omega arith in
+    last_below (g ∷ es) last e d (omega arith) (is ∙ ap (λ (k : ℕ). get_or (f ∷ g ∷ es) k d) n) (and_parts (is_before f e) (list_all (λ f. is_before f e) (g ∷ es)) h).1
+
+-- the test of one more entry
+pub push_unnamed : (es : List TreeEntry) (e : TreeEntry) → is_entry e ≡ false → false ≡ is_tree (es ++ e ∷ [])
+push_unnamed es e h = by_truth (is_tree (es ++ e ∷ [])) (λ t. never (is_entry e) (tree_pushed es e t).named h) sym
+
+pub push_test : (es : List TreeEntry) (last e d : TreeEntry) → is_tree es ≡ true → is_entry e ≡ true → 0 < length es → last ≡ get_or es (length es - 1) d → (is_below last e && not (is_twin es e)) ≡ is_tree (es ++ e ∷ [])
+push_test es last e d tree named some is =
+    by_truth (is_below last e)
+    (λ below. by_truth (is_twin es e)
+    (λ twin. by_truth (is_tree (es ++ e ∷ []))
+    (λ t. never (has_key e.name es) (and_parts (is_dir e.mode) (has_key e.name es) twin).1 (no_key_before es e named (tree_pushed es e t).before))
+    (λ f. (λ i. below i && not (twin i)) ∙ sym f))
+    (λ single. (λ i. below i && not (single i)) ∙ sym (tree_push es e tree named (before_from_below es es e (λ key k. k) (below_last es last e d tree is below) single))))
+    (λ above. by_truth (is_tree (es ++ e ∷ []))
+    (λ t. never (is_below last e) (last_below es last e d some is (tree_pushed es e t).before) above)
+    (λ f. (λ i. above i && not (is_twin es e)) ∙ sym f))
+
+pub push_above : (es : List TreeEntry) (last e d : TreeEntry) → is_tree es ≡ true → is_entry e ≡ true → 0 < length es → last ≡ get_or es (length es - 1) d → is_below last e ≡ false → false ≡ is_tree (es ++ e ∷ [])
+push_above es last e d tree named some is above = sym (ap (λ b. b && not (is_twin es e)) above) ∙ push_test es last e d tree named some is
+
+pub push_alone : (es : List TreeEntry) (last e d : TreeEntry) → is_tree es ≡ true → is_entry e ≡ true → 0 < length es → last ≡ get_or es (length es - 1) d → is_below last e ≡ true → not (is_twin es e) ≡ is_tree (es ++ e ∷ [])
+push_alone es last e d tree named some is below = sym (ap (λ b. b && not (is_twin es e)) below) ∙ push_test es last e d tree named some is

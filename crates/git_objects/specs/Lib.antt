@@ -1,8 +1,15 @@
+pub mod CommitLines
+pub mod CommitTexts
 pub mod Commits
+pub mod Cuts
+pub mod Decodes
+pub mod Decoding
 pub mod Entries
 pub mod Headers
 pub mod Ids
 pub mod Kinds
+pub mod Laws
+pub mod Numbers
 pub mod Objects
 pub mod People
 pub mod Persons

@@ -1,8 +1,10 @@
 // Commits.
 ghost use Rattle.std.specs.Prelude.{◌≡◌, ◌++◌, IsTrue, OnOk, MatchResult};
+ghost use Rattle.std.specs.List.{All};
 ghost use Rattle.git_objects.specs.Headers.{is_extra};
-ghost use Rattle.git_objects.specs.Commits.{commit_text, people_text, links_text, parent_line};
-ghost use Rattle.git_objects.specs.Persons.{person_text};
+ghost use Rattle.git_objects.specs.Commits.{people_text, links_text, parent_line};
+ghost use Rattle.git_objects.specs.Ids.{IsId};
+ghost use Rattle.git_objects.specs.Persons.{person_text, IsStored};
 ghost use Rattle.git_objects.specs.declared.errors.ObjErr.TheVariants.{NoMemory};
 
 use crate::errors::ObjErr;
@@ -24,10 +26,14 @@ pub struct Commit {
 }
 
 impl Commit {
+    ghost use Rattle.git_objects.specs.CommitTexts.{fields_of, IsCommitText};
+
     #[tactic(auto, unfolding(crate::specs::Commits::people_text))]
     fn append_people(&self, body: &mut Vec<u8>) -> Result<(), AllocError>
-        ensures { OnOk result (body.new.items ≡ body.old.items
+        ensures text { OnOk result (body.new.items ≡ body.old.items
             ++ people_text (person_text self.now.author) (person_text self.now.committer)) }
+        ensures author { OnOk result (IsStored self.now.author) }
+        ensures committer { OnOk result (IsStored self.now.committer) }
     {
         body.extend_from_slice(b"author ")?;
         self.author.append_to(body)?;
@@ -39,11 +45,13 @@ impl Commit {
 
     #[tactic(auto, unfolding(crate::specs::Commits::links_text))]
     fn append_links(&self, body: &mut Vec<u8>) -> Result<(), AllocError>
-        ensures { OnOk result (body.new.items ≡ body.old.items
+        ensures text { OnOk result (body.new.items ≡ body.old.items
             ++ links_text self.now.tree.0 self.now.parents.items) }
+        ensures tree { OnOk result (IsId self.now.tree.0) }
+        ensures parents { OnOk result (All (λ parent. IsId parent.0) self.now.parents.items) }
     {
         body.extend_from_slice(b"tree ")?;
-        body.extend_from_slice(&self.tree.to_hex())?;
+        self.tree.append_to(body)?;
         body.extend_from_slice(b"\n")?;
         for parent in &self.parents {
             append_parent(body, parent)?;
@@ -53,10 +61,8 @@ impl Commit {
 
     /// The body of the commit.
     pub fn encode(&self, alloc: Global) -> Result<Vec<u8>, ObjErr>
-        ensures { MatchResult result (λ body. body.items ≡ commit_text
-            self.now.tree.0 self.now.parents.items
-            (person_text self.now.author) (person_text self.now.committer)
-            self.now.extra self.now.message) (λ e. e ≡ NoMemory) }
+        ensures { MatchResult result (λ body. IsCommitText body.items (fields_of self.now))
+            (λ e. e ≡ NoMemory) }
     {
         let mut body = Vec::new(alloc);
         self.append_links(&mut body)?;
@@ -70,10 +76,11 @@ impl Commit {
 
 #[tactic(auto, unfolding(crate::specs::Commits::parent_line))]
 fn append_parent(body: &mut Vec<u8>, parent: &Id) -> Result<(), AllocError>
-    ensures { OnOk result (body.new.items ≡ body.old.items ++ parent_line parent.now) }
+    ensures text { OnOk result (body.new.items ≡ body.old.items ++ parent_line parent.now) }
+    ensures stored { OnOk result (IsId parent.now.0) }
 {
     body.extend_from_slice(b"parent ")?;
-    body.extend_from_slice(&parent.to_hex())?;
+    parent.append_to(body)?;
     body.extend_from_slice(b"\n")?;
     Ok(())
 }

@@ -55,11 +55,13 @@ impl Mode {
 }
 
 impl TreeEntry {
+    ghost use Rattle.git_objects.specs.Decoding.{IsStored};
     ghost use Rattle.git_objects.specs.Entries.{entry_text, is_entry, is_below, sort_key};
 
     #[tactic(auto, unfolding(crate::specs::Entries::entry_of))]
     pub(crate) fn append_to(&self, body: &mut Vec<u8>) -> Result<(), AllocError>
-        ensures { OnOk result (body.new.items ≡ body.old.items ++ entry_text self.now) }
+        ensures text { OnOk result (body.new.items ≡ body.old.items ++ entry_text self.now) }
+        ensures stored { OnOk result (IsStored self.now) }
     {
         body.extend_from_slice(self.mode.digits().as_bytes())?;
         body.extend_from_slice(b" ")?;

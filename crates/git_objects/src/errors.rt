@@ -2,7 +2,7 @@
 ghost use Rattle.std.specs.Prelude.{◌≡◌};
 ghost use Rattle.git_objects.specs.declared.errors.ObjErr.TheVariants.{NoMemory};
 
-use std::alloc::AllocError;
+use std::alloc::{AllocError, AllocFailed};
 use thiserror::Error;
 
 /// `BadTree` and `BadCommit` name the byte at which a body stops being one.
@@ -20,6 +20,14 @@ impl From<AllocError> for ObjErr {
     ghost from_gives = { λ _ e. e ≡ NoMemory };
 
     fn from(_: AllocError) -> Self {
+        ObjErr::NoMemory
+    }
+}
+
+impl<T: Drop> From<AllocFailed<T>> for ObjErr {
+    ghost from_gives = { λ _ e. e ≡ NoMemory };
+
+    fn from(_: AllocFailed<T>) -> Self {
         ObjErr::NoMemory
     }
 }

@@ -4,7 +4,7 @@ ghost use Rattle.std.specs.List.{list_all};
 ghost use Rattle.git_objects.specs.Headers.{is_extra, is_extra_line, lines_of, IsExtra};
 
 #[tactic(auto, unfolding(crate::specs::Headers::is_extra_line))]
-fn is_extra_line(line: &[u8]) -> bool
+pub(crate) fn is_extra_line(line: &[u8]) -> bool
     ensures { result ≡ is_extra_line line.now }
 {
     !line.is_empty()

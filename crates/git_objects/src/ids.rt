@@ -1,8 +1,9 @@
 // Ids, by which objects are named.
-ghost use Rattle.std.specs.Prelude.{◌≡◌, MatchOption};
-ghost use Rattle.git_objects.specs.Ids.{hex_of, lowered, IsDigits};
+ghost use Rattle.std.specs.Prelude.{◌≡◌, ◌++◌, length, MatchOption, OnOk};
+ghost use Rattle.git_objects.specs.Ids.{hex_of, lowered, IsDigits, IsId};
 
 use hex::FromHex;
+use std::alloc::AllocError;
 
 #[derive(Clone, Copy, Debug, PartialEq, Eq, PartialOrd, Ord)]
 pub struct Id(pub [u8; 20]);
@@ -27,4 +28,22 @@ impl Id {
         hex::encode_to_slice(&self.0, &mut digits).unwrap();
         digits
     }
+
+    pub(crate) fn append_to(&self, body: &mut Vec<u8>) -> Result<(), AllocError>
+        ensures text { OnOk result (body.new.items ≡ body.old.items ++ hex_of self.now.0) }
+        ensures stored { OnOk result (IsId self.now.0) }
+    {
+        append_hex(body, self.0.as_slice())
+    }
+}
+
+fn append_hex(body: &mut Vec<u8>, id: &[u8]) -> Result<(), AllocError>
+    requires { length id.now ≡ 20 }
+    ensures text { OnOk result (body.new.items ≡ body.old.items ++ hex_of id.now) }
+    ensures stored { OnOk result (IsId id.now) }
+{
+    let mut digits = [0u8; 40];
+    hex::encode_to_slice(id, &mut digits).unwrap();
+    body.extend_from_slice(&digits)?;
+    Ok(())
 }

@@ -1,32 +1,32 @@
 // Reading an object's text.
-ghost use Rattle.std.specs.Prelude.{◌≡◌, ◌↔◌, ◌≤◌, ◌++◌, ⊤, IsTrue, List, ℕ, length, drop, is_some, MatchOption};
-ghost use Rattle.std.specs.List.{position};
+ghost use Rattle.std.specs.Prelude.{◌≡◌, ◌↔◌, ◌≤◌, ⊤, ℕ, List, Some, IsTrue, length, drop};
+ghost use Rattle.std.specs.Prelude.{is_some, MatchOption};
 ghost use Rattle.git_objects.specs.Kinds.{header_of, text_of};
-ghost use Rattle.git_objects.specs.Readings.{is_nul, is_object_text, IsNoHeader};
+ghost use Rattle.git_objects.specs.Readings.{is_object_text, IsNoHeader};
 
+use crate::cuts::{place_of, without_front};
 use crate::objects::ObjKind;
 use itoa::Buffer;
 
-/// The kind of the object whose text this is, and where its body starts. None where it is no object's text.
+/// The kind of the object whose text this is, and where its body starts. None where it is no
+/// object's text.
 pub fn read_object(text: &[u8]) -> Option<(ObjKind, usize)>
     ensures found { is_some result ≡ is_object_text text.now }
-    ensures parts { MatchOption result ⊤ (λ r. (r.1 ≤ length text.now) × (text.now ≡ text_of r.0 (drop r.1 text.now))) }
+    ensures parts { MatchOption result ⊤ (λ r. (r.1 ≤ length text.now)
+        × (text.now ≡ text_of r.0 (drop r.1 text.now))) }
+    ensures each { (kind : ObjKind) (body : List ℕ) → text.now ≡ text_of kind body
+        → result ≡ Some (kind, length (header_of kind (length body))) }
 {
-    let start = first_nul(text)? + 1;
+    let start = place_of(text, b'\0')? + 1;
     let (header, body) = text.split_at(start);
     let kind = header_kind(header, body.len())?;
     Some((kind, start))
 }
 
-fn first_nul(text: &[u8]) -> Option<usize>
-    ensures { result ≡ position is_nul text.now }
-{
-    text.iter().position(|b| *b == 0)
-}
-
 // The kind whose header this is, before a body of this size.
 fn header_kind(header: &[u8], size: usize) -> Option<ObjKind>
-    ensures { MatchOption result (IsNoHeader header.now size) (λ kind. header.now ≡ header_of kind size) }
+    ensures { MatchOption result (IsNoHeader header.now size)
+        (λ kind. header.now ≡ header_of kind size) }
 {
     let kinds = [ObjKind::Blob, ObjKind::Tree, ObjKind::Commit, ObjKind::Tag];
     for kind in kinds {
@@ -53,11 +53,4 @@ fn is_header(header: &[u8], kind: ObjKind, size: usize) -> bool
         return false;
     };
     rest == b"\0".as_slice()
-}
-
-// What follows another text.
-fn without_front<'a>(text: &'a [u8], front: &[u8]) -> Option<&'a [u8]>
-    ensures { MatchOption result ((rest : List ℕ) → text.now ≡ front.now ++ rest → ⊥) (λ x. text.now ≡ front.now ++ x.now) }
-{
-    text.strip_prefix(front)
 }

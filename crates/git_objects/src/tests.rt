@@ -3,8 +3,12 @@ ghost use Rattle.std.specs.Prelude.{◌≡◌, IfOk};
 
 use crate::commits::Commit;
 use crate::entries::{Mode, TreeEntry};
+use crate::errors::ObjErr;
 use crate::headers::is_extra;
 use crate::ids::Id;
+use crate::laws::{
+    reread_commit, reread_tree, rewrite_commit, rewrite_tree, texts_have_one_reading,
+};
 use crate::objects::{ObjKind, blob_id, object_id, object_text};
 use crate::people::{Person, is_person};
 use crate::reading::read_object;
@@ -124,6 +128,14 @@ fn trees_are_gits(rt: HostRuntime) -> Result<(), Fail> {
     let body = tree.encode(rt.alloc()).ok().ok_or("body")?;
     let known = b"327677597d2b8ac27d8ea295cc1ce141de4b4845";
     assert_eq!(rt; object_id(ObjKind::Tree, body.as_slice()), id(known)?);
+    let read = reread_tree(rt.alloc(), &tree).ok().ok_or("read")?;
+    assert_eq!(rt; read.entries.len(), 5);
+    assert_eq!(rt; read.entries[1].name.as_str(), "a");
+    let written = rewrite_tree(rt.alloc(), body.as_slice())
+        .ok()
+        .ok_or("written")?;
+    assert_eq!(rt; written.as_slice(), body.as_slice());
+    texts_have_one_reading();
     Ok(())
 }
 
@@ -199,4 +211,119 @@ fn people_and_lines(rt: HostRuntime) {
     ] {
         assert_eq!(rt; is_extra(extra), valid, "{extra:?}");
     }
+}
+
+// Where a body stops being a tree's. None where it is one.
+fn tree_stop(rt: &HostRuntime, body: &[u8]) -> Result<Option<u64>, Fail> {
+    match Tree::decode(rt.alloc(), body) {
+        Ok(_) => Ok(None),
+        Err(ObjErr::BadTree { at }) => Ok(Some(at)),
+        Err(_) => Err(Fail::from("memory")),
+    }
+}
+
+#[test]
+fn trees_are_read(rt: HostRuntime) -> Result<(), Fail> {
+    for (body, stop) in [
+        (b"".as_slice(), None),
+        (b"40000 a\012345678901234567890", None),
+        (b"100644 a\01234567890", Some(0)),
+        (b"100664 a\012345678901234567890", Some(0)),
+        (b"040000 a\012345678901234567890", Some(0)),
+        (
+            b"100644 a\012345678901234567890100644 a\012345678901234567890",
+            Some(29),
+        ),
+        (
+            b"100644 b\012345678901234567890100644 a\012345678901234567890",
+            Some(29),
+        ),
+        (b"100644 a\0123456789012345678901", Some(29)),
+    ] {
+        assert_eq!(rt; tree_stop(&rt, body)?, stop, "{body:?}");
+    }
+    Ok(())
+}
+
+// Where a body stops being a commit's. None where it is one.
+fn commit_stop(rt: &HostRuntime, body: &[u8]) -> Result<Option<u64>, Fail> {
+    match Commit::decode(rt.alloc(), body) {
+        Ok(_) => Ok(None),
+        Err(ObjErr::BadCommit { at }) => Ok(Some(at)),
+        Err(_) => Err(Fail::from("memory")),
+    }
+}
+
+const TREE: &[u8] = b"tree 4b825dc642cb6eb9a060e54bf8d69288fbee4904\n";
+
+const PARENT: &[u8] = b"parent d4ff1b068fcc129f2ca38c278e6590bb0c239fef\n";
+
+const AUTHOR: &[u8] = b"author A U Thor <a@b.c> 1700000000 +0130\n";
+
+const COMMITTER: &[u8] = b"committer C O Mitter <c@d> 1700000060 -0500\n";
+
+const SIGNED: &[u8] =
+    b"encoding latin1\ngpgsig -----BEGIN SIGNATURE-----\n \n iQE=\n -----END SIGNATURE-----\n";
+
+fn joined(rt: &HostRuntime, parts: &[&[u8]]) -> Result<Vec<u8>, Fail> {
+    let mut text = Vec::new(rt.alloc());
+    for part in parts {
+        text.extend_from_slice(part)?;
+    }
+    Ok(text)
+}
+
+#[test]
+fn commits_are_read(rt: HostRuntime) -> Result<(), Fail> {
+    let message = b"\nSecond\n\nbody\n";
+    let body = joined(&rt, &[TREE, PARENT, AUTHOR, COMMITTER, SIGNED, message])?;
+    let known = b"4e3d585d4a17469627f020f43fa5ac560e1ffe06";
+    assert_eq!(rt; object_id(ObjKind::Commit, body.as_slice()), id(known)?);
+    let commit = Commit::decode(rt.alloc(), body.as_slice())
+        .ok()
+        .ok_or("commit")?;
+    assert_eq!(rt; commit.parents.len(), 1);
+    assert_eq!(rt; commit.author.secs, 1700000000);
+    assert_eq!(rt; commit.committer.email.as_str(), "c@d");
+    assert_eq!(rt; commit.message.as_slice(), b"Second\n\nbody\n".as_slice());
+    let again = reread_commit(rt.alloc(), &commit).ok().ok_or("again")?;
+    assert_eq!(rt; again.extra.as_slice(), SIGNED);
+    let written = rewrite_commit(rt.alloc(), body.as_slice())
+        .ok()
+        .ok_or("written")?;
+    assert_eq!(rt; written.as_slice(), body.as_slice());
+    Ok(())
+}
+
+#[test]
+fn commits_stop(rt: HostRuntime) -> Result<(), Fail> {
+    for (more, stop) in [
+        (b"".as_slice(), Some(135)),
+        (b"committer C <> 0 +0000\n\n", None),
+        (b"committer C <> 0 +0000\na b\n\nm", None),
+        (b"committer C <> 0 +0000", Some(135)),
+        (b"committer C <> 0 +0000\n", Some(158)),
+        (b"committer C <> 0 +0000\na b\n", Some(162)),
+        (b"committer C <> 0 +0000\ntree 4\n\n", Some(158)),
+        (b"committer C <> 0 +0000\n a\n\n", Some(158)),
+        (b"committer C <> 00 +0000\n\n", Some(135)),
+        (b"committer C <> 18446744073709551616 +0000\n\n", Some(135)),
+        (b"committer C  0 +0000\n\n", Some(135)),
+        (b"author C <> 0 +0000\n\n", Some(135)),
+    ] {
+        let body = joined(&rt, &[TREE, PARENT, AUTHOR, more])?;
+        assert_eq!(rt; commit_stop(&rt, body.as_slice())?, stop, "{more:?}");
+    }
+    for (body, stop) in [
+        (b"".as_slice(), Some(0)),
+        (b"tree 4b825dc642cb6eb9a060e54bf8d69288fbee490\n", Some(0)),
+        (b"tree 4B825dc642cb6eb9a060e54bf8d69288fbee4904\n", Some(0)),
+        (
+            b"tree 4b825dc642cb6eb9a060e54bf8d69288fbee4904\ntree 4b",
+            Some(46),
+        ),
+    ] {
+        assert_eq!(rt; commit_stop(&rt, body)?, stop, "{body:?}");
+    }
+    Ok(())
 }

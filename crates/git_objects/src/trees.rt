@@ -1,7 +1,8 @@
 // Trees.
 ghost use Rattle.std.specs.Prelude.{◌≡◌, ◌↔◌, IsTrue, MatchResult};
 ghost use Rattle.std.specs.List.{list_all};
-ghost use Rattle.git_objects.specs.Entries.{is_entry, is_tree, tree_text};
+ghost use Rattle.git_objects.specs.Entries.{is_entry, is_tree};
+ghost use Rattle.git_objects.specs.Decoding.{IsTreeText};
 ghost use Rattle.git_objects.specs.Sorted.{IsAscending, has_key, has_twins};
 ghost use Rattle.git_objects.specs.declared.errors.ObjErr.TheVariants.{NoMemory};
 
@@ -31,7 +32,7 @@ fn are_ascending(entries: &[TreeEntry]) -> bool
 }
 
 // Whether an entry is sorted by this text.
-fn has_key(entries: &[TreeEntry], key: &[u8]) -> bool
+pub(crate) fn has_key(entries: &[TreeEntry], key: &[u8]) -> bool
     requires { IsAscending entries.now }
     ensures { result ≡ has_key key.now entries.now }
 {
@@ -67,7 +68,8 @@ pub fn are_entries(entries: &[TreeEntry]) -> bool
 impl Tree {
     /// The body of the tree.
     pub fn encode(&self, alloc: Global) -> Result<Vec<u8>, ObjErr>
-        ensures { MatchResult result (λ body. body.items ≡ tree_text self.now.entries.items) (λ e. e ≡ NoMemory) }
+        ensures { MatchResult result (λ body. IsTreeText body.items self.now.entries.items)
+            (λ e. e ≡ NoMemory) }
     {
         let mut body = Vec::new(alloc);
         for entry in &self.entries {
