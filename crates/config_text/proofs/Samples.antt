@@ -1,8 +1,8 @@
 -- Whole texts and UUIDs, computed from the definitions: a wrong one does not check.
-use Rattle.std.proofs.Common.{◌≡◌, ℕ, List, [], ◌∷◌, Some, replicate, refl, codes}
-use Rattle.config_text.proofs.OnLiterals.{texts_on_literals, uuids_on_literals}
+use Rattle.std.proofs.Common.{◌≡◌, ℕ, List, [], ◌∷◌, Some, Ok, Err, replicate, refl, codes}
+use Rattle.config_text.proofs.OnLiterals.{texts_on_literals, reading_on_literals, uuids_on_literals}
 use Rattle.config_text.specs.Values.{printed_value}
-use Rattle.config_text.specs.Texts.{printed_section, repo_text, made}
+use Rattle.config_text.specs.Texts.{printed_section, repo_text, made, sections_of, config_in}
 use Rattle.config_text.specs.declared.uuids.Role.TheVariants.{Dataset, Repository}
 
 -- 01234567-89ab-5cde-8f01-23456789abcd
@@ -34,6 +34,23 @@ empty_value = refl
 pub value_in_quotes : printed_value (codes "a\"b\\c\n\t#") ≡ codes "\"a\\\"b\\\\c\\n\\t#\""
 unfolding texts_on_literals
 value_in_quotes = refl
+
+pub read_section : sections_of (codes "[a \"b\\\"c\"]\n\tK = \" x\" # n\n")
+    ≡ Ok (record { name = codes "a"; sub = Some (codes "b\"c"); entries = record { key = codes "k"; value = codes " x" } ∷ [] } ∷ [])
+unfolding reading_on_literals
+read_section = refl
+
+pub read_outside : sections_of (codes "k = v\n") ≡ Err 1
+unfolding reading_on_literals
+read_outside = refl
+
+pub read_continued : sections_of (codes "[a]\nk = v\\\n w\n") ≡ Err 2
+unfolding reading_on_literals
+read_continued = refl
+
+pub read_nothing : config_in [] ≡ Err 0
+unfolding reading_on_literals
+read_nothing = refl
 
 pub made_dataset : made (replicate 16 7) Dataset (codes "w" ∷ codes "ds" ∷ [])
     ≡ 124 ∷ 165 ∷ 145 ∷ 69 ∷ 181 ∷ 172 ∷ 94 ∷ 243 ∷ 144 ∷ 173 ∷ 96 ∷ 6 ∷ 83 ∷ 177 ∷ 46 ∷ 13 ∷ []

@@ -1,5 +1,10 @@
+pub mod Laws
+pub mod Lookups
+pub mod Lines
+pub mod Reading
 pub mod Repository
 pub mod Sections
+pub mod Settings
 pub mod Texts
 pub mod Uuids
 pub mod Values

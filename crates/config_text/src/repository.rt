@@ -1,12 +1,15 @@
 // `.dlrepo/config`: what a repository knows of itself, of its user and of its remotes.
-ghost use Rattle.std.specs.Prelude.{◌≡◌, ◌++◌, OnOk, MatchResult};
+ghost use Rattle.std.specs.Prelude.{◌≡◌, ◌++◌, map, option_map, IfOk, OnOk, MatchResult};
 ghost use Rattle.std.specs.List.{flat_map};
-ghost use Rattle.config_text.specs.Sections.{printed_entry, printed};
+ghost use Rattle.config_text.specs.Sections.{printed_entry, printed, plain};
+ghost use Rattle.config_text.specs.Reading.{Gives};
 ghost use Rattle.config_text.specs.Repository.{uuid_entry};
 ghost use Rattle.config_text.specs.declared.errors.ConfErr.TheVariants.{NoMemory};
 
 use crate::errors::ConfErr;
+use crate::reading::read;
 use crate::sections::{Section, append_entry, append_heading, append_heading_of, append_sections};
+use crate::settings::{keep_others, numcopies, own_uuid, person, remotes};
 use itoa::Buffer;
 use places::{Place, Text};
 use std::alloc::{AllocError, Global};
@@ -44,11 +47,59 @@ impl Remote {
 }
 
 impl RepoConfig {
-    ghost use Rattle.config_text.specs.Repository.{annex_text, user_text, remote_text, repo_printed};
+    ghost use Rattle.config_text.specs.Repository.{plain_config, config_of, config_in, annex_text, user_text, remote_text, repo_printed};
+
+    /// The configuration in a `.dlrepo/config`. A value that is missing or malformed is bad at line 0.
+    #[tactic(auto, unfolding(crate::specs::Repository::config_in))]
+    pub fn read(alloc: Global, bytes: &[u8]) -> Result<RepoConfig, ConfErr>
+        ensures { Gives plain_config (config_in bytes.now) result }
+    {
+        let sections = read(alloc, bytes)?;
+        match RepoConfig::from_sections(alloc, sections)? {
+            Some(config) => Ok(config),
+            None => Err(ConfErr::BadLine { line: 0 }),
+        }
+    }
+
+    #[tactic(auto, unfolding(crate::specs::Repository::config_of))]
+    fn from_sections(
+        alloc: Global,
+        mut sections: Vec<Section>,
+    ) -> Result<Option<RepoConfig>, AllocError>
+        ensures { IfOk result (λ found.
+            option_map plain_config found ≡ config_of (map plain sections.items)) }
+    {
+        let Some(uuid) = own_uuid(sections.as_slice()) else {
+            return Ok(None);
+        };
+        let Some(numcopies) = numcopies(sections.as_slice()) else {
+            return Ok(None);
+        };
+        let Some(name) = person(alloc, sections.as_slice(), "name", "DataLad User")? else {
+            return Ok(None);
+        };
+        let Some(email) = person(alloc, sections.as_slice(), "email", "user@localhost")? else {
+            return Ok(None);
+        };
+        let Some(remotes) = remotes(alloc, sections.as_slice())? else {
+            return Ok(None);
+        };
+        keep_others(&mut sections);
+        let rest = sections;
+        Ok(Some(RepoConfig {
+            uuid,
+            numcopies,
+            name,
+            email,
+            remotes,
+            rest,
+        }))
+    }
 
     /// The text of `.dlrepo/config`.
     pub fn print(&self, alloc: Global) -> Result<Vec<u8>, ConfErr>
-        ensures { MatchResult result (λ text. text.items ≡ repo_printed self.now) (λ e. e ≡ NoMemory) }
+        ensures { MatchResult result (λ text. text.items ≡ repo_printed self.now)
+            (λ e. e ≡ NoMemory) }
     {
         let mut text = Vec::new(alloc);
         self.append_annex(&mut text)?;
@@ -59,7 +110,8 @@ impl RepoConfig {
     }
 
     fn append_annex(&self, text: &mut Vec<u8>) -> Result<(), AllocError>
-        ensures { OnOk result (text.new.items ≡ text.old.items ++ annex_text self.now.uuid self.now.numcopies) }
+        ensures { OnOk result (text.new.items
+            ≡ text.old.items ++ annex_text self.now.uuid self.now.numcopies) }
     {
         let mut buffer = Buffer::new();
         append_heading(text, "annex")?;
@@ -68,7 +120,8 @@ impl RepoConfig {
     }
 
     fn append_user(&self, text: &mut Vec<u8>) -> Result<(), AllocError>
-        ensures { OnOk result (text.new.items ≡ text.old.items ++ user_text self.now.name self.now.email) }
+        ensures { OnOk result (text.new.items
+            ≡ text.old.items ++ user_text self.now.name self.now.email) }
     {
         append_heading(text, "user")?;
         append_entry(text, "name", self.name.as_str())?;
@@ -76,7 +129,8 @@ impl RepoConfig {
     }
 
     fn append_remotes(&self, text: &mut Vec<u8>) -> Result<(), AllocError>
-        ensures { OnOk result (text.new.items ≡ text.old.items ++ flat_map remote_text self.now.remotes.items) }
+        ensures { OnOk result (text.new.items
+            ≡ text.old.items ++ flat_map remote_text self.now.remotes.items) }
     {
         for remote in &self.remotes {
             remote.append_to(text)?;

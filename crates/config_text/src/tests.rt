@@ -1,5 +1,8 @@
-// Printed texts, each of which git reads back, and UUIDs that Python's `uuid` gives.
-use crate::{ConfErr, Entry, Remote, RepoConfig, Role, Section, made_uuid, print};
+// Texts that git reads and refuses alike, and UUIDs that Python's `uuid` gives.
+use crate::{
+    ConfErr, Entry, Remote, RepoConfig, Role, Section, append_section, dataset_id, made_uuid,
+    print, read, submodules,
+};
 use places::{Place, Text};
 use std::alloc::{AllocError, Global};
 use std::test::Fail;
@@ -147,5 +150,127 @@ fn tells_errors(rt: HostRuntime) -> Result<(), Fail> {
     assert_eq!(rt; line.as_str(), "line 7 of the configuration cannot be read");
     let memory = format!(in rt.alloc(); "{}", ConfErr::NoMemory)?;
     assert_eq!(rt; memory.as_str(), "no memory");
+    Ok(())
+}
+
+#[test]
+fn reads_values(rt: HostRuntime) -> Result<(), Fail> {
+    for (written, want) in [
+        ("k = \" x\" # n", " x"),
+        ("\t K \t=v; n", "v"),
+        ("k = a  b \t", "a  b"),
+        ("k", "true"),
+        ("k =", ""),
+        ("k = \"#\"\\\"\\t", "#\"\t"),
+        ("k = a\\b\\n\\\\ \t # c", "a\u{8}\n\\"),
+        ("k = a=b", "a=b"),
+    ] {
+        let text = format!(in rt.alloc(); "# c\n[a \"b\\\"c\"]\r\n\n{written}\r\n")?;
+        let list = read(rt.alloc(), text.as_str().as_bytes())?;
+        assert_eq!(rt; list.len(), 1);
+        assert_eq!(rt; list[0].name.as_str(), "a");
+        assert!(rt; list[0].sub.is_some());
+        assert_eq!(rt; list[0].entries.len(), 1, "at {written}");
+        assert_eq!(rt; list[0].entries[0].key.as_str(), "k");
+        assert_eq!(rt; list[0].entries[0].value.as_str(), want, "at {written}");
+    }
+    Ok(())
+}
+
+#[test]
+fn refuses_lines(rt: HostRuntime) -> Result<(), Fail> {
+    for (text, line) in [
+        ("k = v\n", 1),
+        ("[a]\nk = a\\\nb\n", 2),
+        ("[a]\nk = \"a\n", 2),
+        ("[a]\nk = a\\x\n", 2),
+        ("[a]\n1k = v", 2),
+        ("[a]\nk # c\n", 2),
+        ("[a] # c\n", 1),
+        ("[a  \"b\"]\n", 1),
+        ("[a]\n\n[a_b]\n", 3),
+    ] {
+        match read(rt.alloc(), text.as_bytes()) {
+            Ok(_) => assert!(rt; false, "{text} is read"),
+            Err(error) => assert_eq!(rt; error, ConfErr::BadLine { line }, "at {text}"),
+        }
+    }
+    match read(rt.alloc(), b"[a]\n#\xff\n") {
+        Ok(_) => assert!(rt; false, "another encoding is read"),
+        Err(error) => assert_eq!(rt; error, ConfErr::BadLine { line: 2 }),
+    }
+    Ok(())
+}
+
+#[test]
+fn appends(rt: HostRuntime) -> Result<(), Fail> {
+    let section = section(rt.alloc(), "s", Some("b"), "k", "v")?;
+    for (old, want) in [
+        ("", "[s \"b\"]\n\tk = v\n"),
+        ("[a]\n", "[a]\n[s \"b\"]\n\tk = v\n"),
+        ("[a]", "[a]\n[s \"b\"]\n\tk = v\n"),
+    ] {
+        let text = append_section(rt.alloc(), old.as_bytes(), &section)?;
+        assert_eq!(rt; text.as_slice(), want.as_bytes(), "at {old}");
+    }
+    Ok(())
+}
+
+#[test]
+fn tells_of_a_dataset(rt: HostRuntime) -> Result<(), Fail> {
+    let text = "[datalad \"dataset\"]\nid = 01234567-89AB-5cde-8f01-23456789abcd\nid = x\n\
+        [submodule \"n\"]\npath = p\npath = q\n[submodule \"m\"]\nurl = u\n";
+    let list = read(rt.alloc(), text.as_bytes())?;
+    assert_eq!(rt; dataset_id(list.as_slice()), Some(Uuid::parse_str(ID)?));
+    let found = submodules(rt.alloc(), list.as_slice())?;
+    assert_eq!(rt; found.len(), 1);
+    assert_eq!(rt; found[0].name.as_str(), "n");
+    assert_eq!(rt; found[0].path.as_str(), "q");
+    assert!(rt; found[0].url.is_none());
+    Ok(())
+}
+
+#[test]
+fn reads_a_repository(rt: HostRuntime) -> Result<(), Fail> {
+    let text = "[annex]\nuuid = 01234567-89ab-5cde-8f01-23456789abcd\n[core]\nbare = false\n\
+        [remote \"b\"]\nurl = /w\nuuid = 01234567-89ab-5cde-8f01-23456789abcd\n";
+    let config = RepoConfig::read(rt.alloc(), text.as_bytes())?;
+    assert_eq!(rt; config.uuid, Uuid::parse_str(ID)?);
+    assert_eq!(rt; config.numcopies, 1);
+    assert_eq!(rt; config.name.as_str(), "DataLad User");
+    assert_eq!(rt; config.email.as_str(), "user@localhost");
+    assert_eq!(rt; config.remotes.len(), 1);
+    assert_eq!(rt; config.remotes[0].name.as_str(), "b");
+    assert_eq!(rt; config.remotes[0].url.as_str(), "/w");
+    assert_eq!(rt; config.rest.len(), 1);
+    assert_eq!(rt; config.rest[0].name.as_str(), "core");
+    Ok(())
+}
+
+#[test]
+fn refuses_repositories(rt: HostRuntime) -> Result<(), Fail> {
+    for (more, line) in [
+        ("[a\n", 3),
+        ("numcopies = 0\n", 0),
+        ("numcopies = 1001\n", 0),
+        ("numcopies = 02\n", 0),
+        ("uuid = x\n", 0),
+        ("[user]\nname = a<b\n", 0),
+        ("[remote \"b\"]\nurl = /w\n", 0),
+        (
+            "[remote \"b.c\"]\nurl = /w\nuuid = 01234567-89ab-5cde-8f01-23456789abcd\n",
+            0,
+        ),
+    ] {
+        let text = format!(in rt.alloc(); "[annex]\nuuid = {ID}\n{more}")?;
+        match RepoConfig::read(rt.alloc(), text.as_str().as_bytes()) {
+            Ok(_) => assert!(rt; false, "{more} is read"),
+            Err(error) => assert_eq!(rt; error, ConfErr::BadLine { line }, "at {more}"),
+        }
+    }
+    match RepoConfig::read(rt.alloc(), b"") {
+        Ok(_) => assert!(rt; false),
+        Err(error) => assert_eq!(rt; error, ConfErr::BadLine { line: 0 }),
+    }
     Ok(())
 }

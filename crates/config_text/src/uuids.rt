@@ -36,7 +36,8 @@ pub fn made_uuid(
     role: Role,
     place: &Place,
 ) -> Result<Uuid, ConfErr>
-    ensures { MatchResult result (λ uuid. uuid ≡ made fresh.now role place.now) (λ e. e ≡ NoMemory) }
+    ensures { MatchResult result (λ uuid. uuid ≡ made fresh.now role place.now)
+        (λ e. e ≡ NoMemory) }
 {
     let namespace = Builder::from_random_bytes(*fresh).into_uuid();
     let mut name = Vec::from_slice(alloc, role.prefix().as_bytes())?;
