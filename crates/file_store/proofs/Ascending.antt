@@ -10,7 +10,7 @@ use Rattle.std.specs.BTreeMap.{BTreeMap, IsOrdered}
 use Rattle.std.specs.String.{string_cmp}
 use Rattle.std.specs.Ordering.{nat_cmp}
 use Rattle.std.specs.Cmp.Lexicographic.{slice_cmp}
-use Rattle.file_store.specs.Kinds.{is_item_name, names_in, AreListed}
+use Rattle.file_store.specs.Kinds.{is_item_name, names_in, AreThere, AreListed}
 use Rattle.file_store.specs.Named.{as_items}
 use Rattle.file_store.specs.declared.kinds.Kind.{Kind}
 use Rattle.file_store.specs.declared.kinds.Item.{Item}
@@ -27,8 +27,9 @@ unfolding IsStrictlySortedBy
 ascends [] sorted = tt
 ascends (k ∷ ks) sorted = (after_all k.0 ks sorted.0, ascends ks sorted.1)
 
-pub are_listed : (kinds : BTreeMap (String Global) Kind) (items : List Item) → items ≡ as_items kinds.entries → IsTrue (list_all is_item_name (names_in items)) → IsOrdered string_cmp kinds → AreListed items
-are_listed kinds items is names ordered = record {
+pub are_listed : (kinds : BTreeMap (String Global) Kind) (items : List Item) → items ≡ as_items kinds.entries → IsTrue (list_all is_item_name (names_in items)) → AreThere items → IsOrdered string_cmp kinds → AreListed items
+are_listed kinds items is names there ordered = record {
   names = names;
+  there = there;
   ascending = subst (λ (l : List Item). IsStrictlySortedBy (slice_cmp nat_cmp) (names_in l)) (sym is) (ascends kinds.entries ordered);
 }

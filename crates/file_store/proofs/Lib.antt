@@ -1,14 +1,20 @@
 pub mod Ascending
 pub mod Images
 pub mod Moments
-pub mod OldOrNew
+pub mod Consequences
+pub mod Course
+pub mod ManyFiles
+pub mod Rounds
 mod Effects
+mod Chosen
 mod Gathered
 mod Kept
+mod Laid
 mod Listings
-mod ManyFiles
 mod Moves
 mod Named
-mod OneFile
+pub mod OneFile
+pub mod Removals
+mod Noted
 mod Stored
 mod Writes

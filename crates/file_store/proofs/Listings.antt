@@ -4,14 +4,17 @@ use Rattle.std.specs.Prelude.{◌==◌, Vec, IsSome, is_some, String, string_byt
 use Rattle.std.specs.declared.alloc.Global.{Global}
 use Rattle.std.specs.List.{All, AllByRecursion, list_any, list_all}
 use Rattle.std.specs.Map.{lookup, keys_of}
+use Rattle.std.specs.declared.cmp.Ordering.TheVariants.{Less}
+use Rattle.std.specs.List.Sorted.{IsStrictlySortedBy}
+use Rattle.std.proofs.lemmas.Map.Keys.{sorted_head, sorted_tail}
 use Rattle.std.specs.BTreeMap.{BTreeMap, IsOrdered, is_at, get_by_text}
 use Rattle.std.specs.String.{string_cmp}
-use Rattle.std.specs.Ordering.{nat_cmp}
+use Rattle.std.specs.Ordering.{nat_cmp, is_eq}
 use Rattle.std.specs.Cmp.Lexicographic.{slice_cmp}
 use Rattle.std.proofs.lemmas.Bool.{cases_Bool}
 use Rattle.std.proofs.lemmas.Map.Text.{is_eq-slice_cmp}
 use Rattle.std.proofs.lemmas.Slice.Eq.{bytes_eq-Decides}
-use Rattle.places.specs.Names.{slash, is_name, IsName, IsPlace, is_above}
+use Rattle.places.specs.Names.{Names, slash, is_name, IsName, IsPlace, is_above}
 use Rattle.places.specs.Order.{place_eq, same_names}
 use Rattle.places.specs.Ground.{Ground, stands, stands_below, IsGround}
 use Rattle.places.proofs.Texts.{and_both, or_neither}
@@ -19,8 +22,8 @@ use Rattle.places.proofs.Grammar.{or_either}
 use Rattle.places.proofs.Above.{is_above-sound}
 use Rattle.places.proofs.Grounds.{same}
 use Rattle.places.proofs.Standing.{any_key, key_any, same_truth, stands_below-file}
-use Rattle.file_store.specs.Stored.{ground_of}
-use Rattle.file_store.specs.Kinds.{kind_at, is_item_name, names_in, listed_kind, AreListed, IsListing}
+use Rattle.file_store.specs.Memory.Lists.{ground_of}
+use Rattle.file_store.specs.Kinds.{kind_at, is_item_name, names_in, listed_kind, is_there, AreThere, AreListed, IsListing}
 use Rattle.file_store.specs.Named.{seen, seen_among, as_items}
 use Rattle.file_store.specs.declared.kinds.Kind.{Kind}
 use Rattle.file_store.specs.declared.kinds.Kind.TheVariants.{Absent, File, Dir}
@@ -30,14 +33,14 @@ use Rattle.file_store.proofs.Ascending.{are_listed}
 use Rattle.file_store.proofs.Named.{name_in}
 
 -- WHAT IS SEEN of a name: nothing, a file, or a directory
-module _ (root : List (List ℕ)) (name : List ℕ) where
-  at_name : List (List ℕ) → Bool
+module _ (root : Names) (name : List ℕ) where
+  at_name : Names → Bool
   at_name q = place_eq (root ++ name ∷ []) q
 
-  under_name : List (List ℕ) → Bool
+  under_name : Names → Bool
   under_name q = is_above (root ++ name ∷ []) q
 
-  seen_none : (ps : List (List (List ℕ))) (kind : Option Kind) → list_any at_name ps ≡ false → list_any under_name ps ≡ false → fold (seen root name) kind ps ≡ kind
+  seen_none : (ps : List Names) (kind : Option Kind) → list_any at_name ps ≡ false → list_any under_name ps ≡ false → fold (seen root name) kind ps ≡ kind
   unfolding at_name under_name
   seen_none [] kind no_file no_dir = refl
   seen_none (p ∷ ps) kind no_file no_dir =
@@ -45,7 +48,7 @@ module _ (root : List (List ℕ)) (name : List ℕ) where
       let d = or_neither (under_name p) (list_any under_name ps) no_dir in
       ap (λ o. fold (seen root name) o ps) (λ i. cond (f.0 i) (Some File) (cond (d.0 i) (Some Dir) kind)) ∙ seen_none ps kind f.1 d.1
 
-  seen_file : (ps : List (List (List ℕ))) (kind : Option Kind) → list_any at_name ps ≡ true → list_any under_name ps ≡ false → fold (seen root name) kind ps ≡ Some File
+  seen_file : (ps : List Names) (kind : Option Kind) → list_any at_name ps ≡ true → list_any under_name ps ≡ false → fold (seen root name) kind ps ≡ Some File
   unfolding at_name under_name
   seen_file [] kind file no_dir = absurd (cc file)
   seen_file (p ∷ ps) kind file no_dir =
@@ -58,7 +61,7 @@ module _ (root : List (List ℕ)) (name : List ℕ) where
         ]
       ]
 
-  seen_dir : (ps : List (List (List ℕ))) (kind : Option Kind) → list_any at_name ps ≡ false → list_any under_name ps ≡ true → fold (seen root name) kind ps ≡ Some Dir
+  seen_dir : (ps : List Names) (kind : Option Kind) → list_any at_name ps ≡ false → list_any under_name ps ≡ true → fold (seen root name) kind ps ≡ Some Dir
   unfolding at_name under_name
   seen_dir [] kind no_file dir = absurd (cc dir)
   seen_dir (p ∷ ps) kind no_file dir =
@@ -92,7 +95,7 @@ module _ (root : List (List ℕ)) (name : List ℕ) where
       by true e true h = let k = stands_below-file (ground_of es) (root ++ name ∷ []) h in absurd (clash_free (root ++ name ∷ []) k.0 e k.1 k.2)
 
   -- a place in a list of places that passes a test
-  found_place : (test : List (List ℕ) → Bool) (ps : List (List (List ℕ))) → AllByRecursion IsPlace ps → list_any test ps ≡ true → (q : List (List ℕ)) × IsPlace q × (test q ≡ true)
+  found_place : (test : Names → Bool) (ps : List Names) → AllByRecursion IsPlace ps → list_any test ps ≡ true → (q : Names) × IsPlace q × (test q ≡ true)
   found_place test [] places h = absurd (cc h)
   found_place test (p ∷ ps) places h = elim (or_either (test p) (list_any test ps) h) [
     | inl here ↦ (p, places.0, here)
@@ -100,17 +103,17 @@ module _ (root : List (List ℕ)) (name : List ℕ) where
   ]
 
   -- what is seen has a name
-  seen_named : (ps : List (List (List ℕ))) → AllByRecursion IsPlace ps → IsSome (seen_among root name ps) → IsName name
+  seen_named : (ps : List Names) → AllByRecursion IsPlace ps → IsSome (seen_among root name ps) → IsName name
   unfolding at_name under_name
   seen_named ps places some = elim (cases_Bool (list_any at_name ps)) [
     | inl file ↦
         let k = found_place at_name ps places file in
-        name_in root name [] (subst (λ (q : List (List ℕ)). All IsName q) (sym ((same_names (root ++ name ∷ []) k.0).0 k.2)) k.1.names)
+        name_in root name [] (subst (λ (q : Names). All IsName q) (sym ((same_names (root ++ name ∷ []) k.0).0 k.2)) k.1.names)
     | inr no_file ↦ elim (cases_Bool (list_any under_name ps)) [
       | inl dir ↦
           let k = found_place under_name ps places dir in
           let a = is_above-sound (root ++ name ∷ []) k.0 k.2 in
-          name_in root name (a.0 ∷ a.1) (subst (λ (q : List (List ℕ)). All IsName q) (a.2 ∙ append_assoc root (name ∷ []) (a.0 ∷ a.1)) k.1.names)
+          name_in root name (a.0 ∷ a.1) (subst (λ (q : Names). All IsName q) (a.2 ∙ append_assoc root (name ∷ []) (a.0 ∷ a.1)) k.1.names)
       | inr no_dir ↦ absurd (cc (ap is_some (seen_none ps None no_file no_dir), some))
     ]
   ]
@@ -158,18 +161,60 @@ all_named (k ∷ ks) named =
         by true = refl
         by false = some
 
+-- under each name that is seen something stands
+abbrev is_fine : Option Kind → Bool
+is_fine None = true
+is_fine (Some kind) = is_there kind
+
+seen_fine : (root : Names) (name : List ℕ) (ps : List Names) (kind : Option Kind) → is_fine kind ≡ true → is_fine (fold (seen root name) kind ps) ≡ true
+seen_fine root name [] kind fine = fine
+seen_fine root name (p ∷ ps) kind fine = seen_fine root name ps (seen root name kind p) (by (place_eq (root ++ name ∷ []) p) (is_above (root ++ name ∷ []) p))
+  where
+    by : (file dir : Bool) → is_fine (cond file (Some File) (cond dir (Some Dir) kind)) ≡ true
+    by true dir = refl
+    by false true = refl
+    by false false = fine
+
+abbrev at_text : List ℕ → String Global → Bool
+at_text name = is_at (λ (k : String Global). slice_cmp nat_cmp name (string_bytes k))
+
+-- a name that is below all others is none of them
+not_below : (k : String Global) (ks : Kinds) → AllByRecursion (λ y. string_cmp k y ≡ Less) (keys_of ks) → lookup (at_text (string_bytes k)) ks ≡ None
+not_below k [] less = refl
+not_below k (e ∷ ks) less =
+    ap (λ o. cond (is_eq o) (Some e.1) (lookup (at_text (string_bytes k)) ks)) less.0 ∙ not_below k ks less.1
+
+all_there : (ks : Kinds) → IsStrictlySortedBy string_cmp (keys_of ks) → ((name : List ℕ) → is_fine (lookup (at_text name) ks) ≡ true) → list_all (λ item. is_there item.kind) (as_items ks) ≡ true
+all_there [] sorted fine = refl
+all_there (k ∷ ks) sorted fine = λ i. here i && all_there ks (sorted_tail string_cmp k.0 (keys_of ks) sorted) later i
+  where
+    here : is_there k.1 ≡ true
+    here = sym (ap (λ b. is_fine (cond b (Some k.1) (lookup (at_text (string_bytes k.0)) ks)))
+        (is_eq-slice_cmp (string_bytes k.0) (string_bytes k.0) ∙ (bytes_eq-Decides (string_bytes k.0) (string_bytes k.0)).1 refl)) ∙ fine (string_bytes k.0)
+
+    later : (name : List ℕ) → is_fine (lookup (at_text name) ks) ≡ true
+    later name = by (at_text name k.0) refl
+      where
+        by : (b : Bool) → at_text name k.0 ≡ b → is_fine (lookup (at_text name) ks) ≡ true
+        by false e = sym (ap (λ b. is_fine (cond b (Some k.1) (lookup (at_text name) ks))) e) ∙ fine name
+        by true e =
+            let same_name = (bytes_eq-Decides name (string_bytes k.0)).0 (sym (is_eq-slice_cmp name (string_bytes k.0)) ∙ e) in
+            ap is_fine (ap (λ (n : List ℕ). lookup (at_text n) ks) same_name ∙ not_below k.0 ks (sorted_head string_cmp k.0 (keys_of ks) sorted))
+
 -- THE LISTING
-pub listing : (es : Entries) (root : List (List ℕ)) (kinds : BTreeMap (String Global) Kind) (items : List Item) → ((name : List ℕ) → get_by_text kinds name ≡ seen_among root name (keys_of es))
+pub listing : (es : Entries) (root : Names) (kinds : BTreeMap (String Global) Kind) (items : List Item) → ((name : List ℕ) → get_by_text kinds name ≡ seen_among root name (keys_of es))
     → AllByRecursion IsPlace (keys_of es) → IsGround (ground_of es) → items ≡ as_items kinds.entries → IsOrdered string_cmp kinds → AreListed items × IsListing (ground_of es) root items
 listing es root kinds items seen_all places clash_free is ordered = (
   are_listed kinds items is
       (subst (λ (l : List Item). IsTrue (list_all is_item_name (names_in l))) (sym is)
       (all_named kinds.entries (λ name some. seen_named root name (keys_of es) places (sym (ap is_some (seen_all name)) ∙ some))))
+      (subst (λ (l : List Item). AreThere l) (sym is)
+      (all_there kinds.entries ordered (λ name. ap is_fine (seen_all name) ∙ seen_fine root name (keys_of es) None refl)))
       ordered,
   λ name. ap (listed_kind name) is ∙ listed-lookup kinds.entries name ∙ ap (λ o. unwrap_or o Absent) (seen_all name) ∙ seen-kind_at root name es clash_free,
 )
 
-pub listing_made : {E : Type 0} (r : Result (Vec Item Global) E) (es : Entries) (g : Ground) (root : List (List ℕ)) (kinds : BTreeMap (String Global) Kind) → ground_of es ≡ g
+pub listing_made : {E : Type 0} (r : Result (Vec Item Global) E) (es : Entries) (g : Ground) (root : Names) (kinds : BTreeMap (String Global) Kind) → ground_of es ≡ g
     → ((name : List ℕ) → get_by_text kinds name ≡ seen_among root name (keys_of es)) → AllByRecursion IsPlace (keys_of es) → IsGround g
     → IfOk r (λ items. items.items ≡ as_items kinds.entries) → IfOk r (λ _. IsOrdered string_cmp kinds) → IfOk r (λ items. AreListed items.items × IsListing g root items.items)
 listing_made (Ok items) es g root kinds is seen_all places clash_free made ordered =

@@ -1,22 +1,26 @@
 -- A list of files replaced, round by round.
-use Rattle.std.proofs.Common.{◌≡◌, ◌≢◌, ◌≤◌, inl, inr, ℕ, suc, zero, true, Bool, IsTrue, cond, List, [], ◌∷◌, Option, Some, None, Ok, Err, Result, refl, sym, ◌∙◌, ap, subst, arith}
+use Rattle.std.proofs.Common.{◌≡◌, ◌≢◌, ◌≤◌, inl, inr, ℕ, suc, zero, true, Bool, IsTrue, cond, List, [], ◌∷◌, Some, None, Ok, Err, Result, refl, sym, ◌∙◌, ap, subst, arith}
 use Rattle.std.specs.Prelude.{slice_get}
-use Rattle.std.specs.FinMap.{insert}
+use Rattle.std.specs.FinMap.{insert, remove}
+use Rattle.std.proofs.lemmas.Bool.{false_from_ne_true}
+use Rattle.places.specs.Names.{Names}
 use Rattle.places.specs.Ground.{Ground, file_at}
-use Rattle.places.proofs.Grounds.{file_at-insert_same, file_at-insert_other}
-use Rattle.file_store.specs.Disk.{Disk, Drive, History, Since, next, MayStep, IsSynced, at_rest, synced}
+use Rattle.places.proofs.Grounds.{cases_place, file_at-insert_same, file_at-insert_other, file_at-remove_other}
+use Rattle.file_store.specs.Disk.{Disk, Drive, History, next, at_rest, synced}
 use Rattle.file_store.specs.Ends.{present, BarrierEnds}
-use Rattle.file_store.specs.Replaced.{staged, installed, stage_block, move_block, block_of, or_next, first_shut, ReplaceEnds, AreApart, IsNoTmp, Between, Allows}
+use Rattle.file_store.specs.Course.{changed, Goes}
+use Rattle.file_store.specs.Replaced.{replaced, staged, installed, all_replaced, stage_block, move_block, block_of, or_next, first_shut, ReplaceEnds, AreApart, IsNoTmp, round_of, replacing}
 use Rattle.file_store.specs.Rounds.{StageEnds, AreReady, MoveEnds}
-use Rattle.file_store.specs.declared.faults.FileErr.{FileErr}
-use Rattle.file_store.specs.declared.faults.FileErr.TheVariants.{Failed, Blocked, NoMemory}
+use Rattle.file_store.specs.declared.errors.FileErr.{FileErr}
+use Rattle.file_store.specs.declared.errors.FileErr.TheVariants.{Failed, Blocked, NoMemory}
 use Rattle.file_store.specs.declared.replacing.Replacement.{Replacement}
-use Rattle.file_store.proofs.Moments.{last, goes_on}
-use Rattle.file_store.proofs.OldOrNew.{Allows-joins, Allows-synced}
+use Rattle.file_store.proofs.Moves.{OwnPlaces}
+use Rattle.file_store.proofs.Course.{goes_early, join, arrives_at}
+use Rattle.file_store.proofs.Rounds.{with_file_same, with_file_other, changed-as, LeftBy, changed_other}
 
 -- ---- between the rounds
 
-staged_other : (list : List Replacement) (g : Ground) (q : List (List ℕ)) → IsNoTmp list q → file_at (staged list g) q ≡ file_at g q
+staged_other : (list : List Replacement) (g : Ground) (q : Names) → IsNoTmp list q → file_at (staged list g) q ≡ file_at g q
 staged_other [] g q no_tmp = refl
 staged_other (x ∷ xs) g q no_tmp = staged_other xs (insert g x.tmp x.bytes) q (λ i r listed. no_tmp (suc i) r listed) ∙ file_at-insert_other g x.tmp x.bytes q (no_tmp 0 x refl)
 
@@ -45,19 +49,31 @@ module _ (list : List Replacement) (d0 d1 d2 : Drive) (wrote : present d1 ≡ st
     files = λ i r listed. ap (λ (g : Ground). file_at g r.tmp) present_staged ∙ staged_stands list (present d0) apart.tmps i r listed;
   }
 
--- ---- a barrier
+-- ---- at every moment
 
-module _ (IsFirm : List (List ℕ) → Type 0) (New : List (List ℕ) → Option (List ℕ) → Type 0) where
-  pub sync_left : (g : Ground) (mid new : History) → MayStep IsSynced mid new → Between IsFirm New g mid.latest.now → Between IsFirm New g new.latest.now
-  sync_left g mid new (inl stays) so_far = subst (λ (h : History). Between IsFirm New g h.latest.now) (sym stays) so_far
-  sync_left g mid new (inr went) so_far = subst (λ (h : History). Between IsFirm New g h.latest.now) (sym went.2)
-      (subst (λ (d : Disk). Between IsFirm New g d.now) (sym went.1) so_far)
+left_all : (list : List Replacement) (q : Names) → ((j : ℕ) (s : Replacement) → slice_get list j ≡ Some s → q ≢ s.place) → LeftBy (round_of list) q
+left_all [] q apart = tt
+left_all (x ∷ xs) q apart = (apart 0 x refl, left_all xs q (λ j s at. apart (suc j) s at))
 
-  pub sync_crash : (start mid new : History) → MayStep IsSynced mid new → Since (Allows IsFirm New start.latest) start mid → Since (Allows IsFirm New start.latest) start new
-  sync_crash start mid new step so_far = goes_on IsSynced so_far step
-      (λ d is. subst (Allows IsFirm New start.latest) (sym is) (Allows-joins IsFirm New start.latest mid.latest (synced mid.latest) (last so_far) (Allows-synced IsFirm New mid.latest)))
+-- moved one by one, files come to stand as in one round
+installed-round : (list : List Replacement) (g : Ground) (q : Names) → OwnPlaces list → IsNoTmp list q → file_at (installed list g) q ≡ file_at (changed (round_of list) g) q
+installed-round [] g q own firm = refl
+installed-round (r ∷ list) g q own firm =
+    let g' = replaced r.tmp r.place r.bytes g in
+    installed-round list g' q (λ j k a b at_j at_k ne. own (suc j) (suc k) a b at_j at_k (λ e. ne (omega (arith, e)))) (λ i s listed. firm (suc i) s listed)
+    ∙ elim (cases_place q r.place) [
+      | inl is ↦
+          changed_other (round_of list) g' q (left_all list q (λ j s at e. own 0 (suc j) r s refl at (λ z. absurd (omega (arith, z))) (sym is ∙ e)))
+          ∙ file_at-insert_same (remove g r.tmp) r.place r.bytes q is
+          ∙ sym (with_file_same r.place (Some r.bytes) (changed (round_of list) g) q is)
+      | inr differ ↦
+          changed-as (round_of list) g' g q (file_at-insert_other (remove g r.tmp) r.place r.bytes q differ ∙ file_at-remove_other g r.tmp q (firm 0 r refl))
+          ∙ sym (with_file_other r.place (Some r.bytes) (changed (round_of list) g) q differ)
+    ]
 
--- ---- how it ends
+module _ (list : List Replacement) (apart : AreApart list) where
+  pub replaced-round : (g : Ground) (q : Names) → IsNoTmp list q → file_at (all_replaced list g) q ≡ file_at (changed (round_of list) g) q
+  replaced-round g q firm = installed-round list (staged list g) q apart.places firm ∙ changed-as (round_of list) (staged list g) g q (staged_other list g q firm)
 
 -- where the writes are not refused, the first isn't
 not_first : (list : List Replacement) (g : Ground) → stage_block list g ≡ None → first_shut list g ≡ true → ⊥
@@ -65,6 +81,21 @@ not_first [] g free shut = absurd (cc)
 not_first (r ∷ list) g free shut =
     let here : Some r.tmp ≡ None = sym (ap (λ b. cond b (Some r.tmp) (stage_block list (insert g r.tmp r.bytes))) shut) ∙ free in
     absurd (cc)
+
+-- writes to the temporary places begin any rounds
+pub staged_goes : (list : List Replacement) {old new : Drive} → Goes (IsNoTmp list) (λ g. []) old new → Goes (IsNoTmp list) (replacing list) old new
+staged_goes list {old} goes = goes_early (replacing list (present old)) goes refl
+
+pub all_goes : (list : List Replacement) {d0 d2 d3 : Drive} (d1 : Drive) → present d1 ≡ staged list (present d0) → stage_block list (present d0) ≡ None → d2.history ≡ next d1.history (synced d1.history.latest)
+    → Goes (IsNoTmp list) (λ g. []) d0 d2 → Goes (IsNoTmp list) (λ g. round_of list ∷ []) d2 d3 → Goes (IsNoTmp list) (replacing list) d0 d3
+all_goes list {d0} {d2} {d3} d1 wrote free kept first second =
+    let g = present d0 in
+    join first
+    (arrives_at (IsNoTmp list) d0.history.latest g (present d1) d2.history.latest (ap (λ (h : History). h.latest) kept) (λ q firm. ap (λ (k : Ground). file_at k q) wrote ∙ staged_other list g q firm))
+    second
+    (ap (λ b. cond b [] (round_of list ∷ [])) (false_from_ne_true (first_shut list g) (not_first list g free)))
+
+-- ---- how it ends
 
 module _ (tells : Bool) (list : List Replacement) (d0 d1 d2 : Drive) (wrote : StageEnds tells list d0 d1 (Ok tt)) (kept : BarrierEnds tells d1 d2 (Ok tt)) (fewer : d0.faults ≤ d2.faults) where
   -- the block, once the writes weren't refused

@@ -28,3 +28,7 @@ steps {P} {old} s is p = subst (λ (h : History). Since P old h) (sym is) (later
 pub goes_on : {P : Disk → Type 0} (S : Disk → Disk → Type 0) {old mid new : History} → Since P old mid → MayStep S mid new → ((d : Disk) → S mid.latest d → P d) → Since P old new
 goes_on S s (inl is) f = stays s is
 goes_on S s (inr step) f = steps s step.2 (f step.0 step.1)
+
+-- a call that keeps what held, as far as it came
+pub carries : {P : Disk → Type 0} (S : Disk → Disk → Type 0) → ((d e : Disk) → P d → S d e → P e) → {old mid new : History} → Since P old mid → MayStep S mid new → Since P old new
+carries S f {old} {mid} s step = goes_on S s step (λ d is. f mid.latest d (last s) is)

@@ -1,40 +1,46 @@
 -- A file replaced, step by step.
-use Rattle.std.proofs.Common.{◌≡◌, ◌≤◌, ℕ, Bool, true, false, IsTrue, List, Some, None, Ok, Err, Result, refl, sym, ◌∙◌, ap, subst, arith}
+use Rattle.std.proofs.Common.{◌≡◌, ◌≢◌, ◌≤◌, ℕ, zero, suc, Bool, true, false, cond, IsTrue, List, [], Some, None, Ok, Err, Result, refl, sym, ◌∙◌, ap, arith}
 use Rattle.std.specs.FinMap.{insert}
-use Rattle.std.specs.Prelude.{is_some}
+use Rattle.std.specs.Prelude.{is_some, slice_get}
 use Rattle.std.proofs.lemmas.Bool.{false≢true}
+use Rattle.places.specs.Names.{Names}
 use Rattle.places.specs.Ground.{file_at, is_shut}
 use Rattle.places.proofs.Grounds.{file_at-insert_same}
-use Rattle.file_store.specs.Disk.{Disk, Drive, History, next, Since, MayStep, IsWritten, IsRenamed, IsSynced, IsClosed, at_rest, wrote, renamed, synced}
+use Rattle.file_store.specs.Disk.{Disk, Drive, History, next, MayStep, IsWritten, IsRenamed, at_rest, wrote, renamed, synced}
 use Rattle.file_store.specs.Ends.{present, WriteEnds, BarrierEnds, RenameEnds}
-use Rattle.file_store.specs.Replaced.{replaced, only, block_of, ReplaceEnds, IsOther, IsFile}
-use Rattle.file_store.specs.declared.faults.FileErr.{FileErr}
-use Rattle.file_store.specs.declared.faults.FileErr.TheVariants.{Failed, Blocked, NoMemory}
-use Rattle.file_store.proofs.Images.{IsClosed-at_rest, renamed-moved}
-use Rattle.file_store.proofs.OldOrNew.{OldOrNew, starts, writes, syncs, renames}
+use Rattle.file_store.specs.Course.{Goes}
+use Rattle.file_store.specs.Replaced.{replaced, staged, only, block_of, ReplaceEnds, AreApart, IsNoTmp, replacing}
+use Rattle.file_store.specs.declared.errors.FileErr.{FileErr}
+use Rattle.file_store.specs.declared.errors.FileErr.TheVariants.{Failed, Blocked, NoMemory}
+use Rattle.file_store.specs.declared.replacing.Replacement.{Replacement}
+use Rattle.file_store.proofs.Images.{renamed-moved}
+use Rattle.file_store.proofs.Course.{goes_nowhere, goes_writing}
+use Rattle.file_store.proofs.Moves.{moving_starts, moved_along, moving_in_call}
+use Rattle.file_store.proofs.ManyFiles.{are_ready, all_goes}
 
-module _ (tmp p : List (List ℕ)) (bytes : List ℕ) (h0 h1 : History) where
-  abbrev Safe : Disk → Type 0
-  Safe = OldOrNew (IsOther tmp) (IsFile p bytes) h0.latest
+-- the list of one
+pub apart_only : (tmp p : Names) (bytes : List ℕ) → tmp ≢ p → AreApart (only tmp p bytes)
+apart_only tmp p bytes apart = record {
+  tmps = λ i j r s at_i at_j differ. absurd (differ (index i r at_i ∙ sym (index j s at_j)));
+  both = λ i j r s at_i at_j same. apart (sym (ap (λ (z : Replacement). z.tmp) (the_one i r at_i)) ∙ same ∙ ap (λ (z : Replacement). z.place) (the_one j s at_j));
+  places = λ i j r s at_i at_j differ. absurd (differ (index i r at_i ∙ sym (index j s at_j)));
+}
+  where
+    index : (i : ℕ) (r : Replacement) → slice_get (only tmp p bytes) i ≡ Some r → i ≡ 0
+    index zero r at = refl
+    index (suc i) r at = absurd (cc at)
 
-  pub write_run : MayStep (IsWritten tmp) h0 h1 → Since Safe h0 h1
-  write_run step = writes (IsOther tmp) (IsFile p bytes) h0 h0 h1 (starts (IsOther tmp) (IsFile p bytes) h0) tmp (λ q firm. firm) step
+    the_one : (i : ℕ) (r : Replacement) → slice_get (only tmp p bytes) i ≡ Some r → r ≡ record { tmp = tmp; place = p; bytes = bytes }
+    the_one zero r at = cc at
+    the_one (suc i) r at = absurd (cc at)
 
-  pub sync_run : (h2 : History) → Since Safe h0 h1 → MayStep IsSynced h1 h2 → Since Safe h0 h2
-  sync_run h2 so_far step = syncs (IsOther tmp) (IsFile p bytes) h0 h1 h2 so_far step
-
+module _ (tmp p : Names) (bytes : List ℕ) (h0 h1 : History) where
   module _ (h2 : History) (written : h1 ≡ next h0 (wrote tmp bytes h0.latest)) (kept : h2 ≡ next h1 (synced h1.latest)) where
     pub ready : h2.latest ≡ at_rest (insert h0.latest.now tmp bytes)
     ready = ap (λ (h : History). h.latest) kept ∙ ap (λ (h : History). synced h.latest) written
 
     pub source : file_at h2.latest.now tmp ≡ Some bytes
     source = ap (λ (d : Disk). file_at d.now tmp) ready ∙ file_at-insert_same h0.latest.now tmp bytes tmp refl
-
-    pub rename_run : (h3 : History) → Since Safe h0 h2 → MayStep (IsRenamed tmp p) h2 h3 → Since Safe h0 h3
-    rename_run h3 so_far step = renames (IsOther tmp) (IsFile p bytes) h0 h2 h3 so_far tmp p bytes source (λ q firm. firm) (λ q v here is. (here, is))
-        (ap (λ (d : Disk). d.torn tmp) ready)
-        (subst (λ (d : Disk). IsClosed d p) (sym ready) (IsClosed-at_rest (insert h0.latest.now tmp bytes) p))
-        step
 
     pub done : (h3 h4 : History) → h3 ≡ next h2 (renamed tmp p h2.latest) → h4 ≡ next h3 (synced h3.latest) → h4.latest ≡ at_rest (replaced tmp p bytes (insert h0.latest.now tmp bytes))
     done h3 h4 renames syncs =
@@ -44,14 +50,31 @@ module _ (tmp p : List (List ℕ)) (bytes : List ℕ) (h0 h1 : History) where
         ∙ ap (λ (d : Disk). synced (renamed tmp p d)) ready
         ∙ ap synced (renamed-moved tmp p bytes (at_rest g) (file_at-insert_same h0.latest.now tmp bytes tmp refl))
 
+-- ---- at every moment
+
+pub write_goes : {tmp p : Names} {bytes : List ℕ} {d0 d1 : Drive} → MayStep (IsWritten tmp) d0.history d1.history → Goes (IsNoTmp (only tmp p bytes)) (λ g. []) d0 d1
+write_goes {tmp} {p} {bytes} {d0} step = goes_writing tmp (goes_nowhere d0) (λ q firm. firm 0 (record { tmp = tmp; place = p; bytes = bytes }) refl) step
+
+module _ {tmp p : Names} {bytes : List ℕ} {d0 d2 d3 : Drive} (d1 : Drive) where
+  pub rename_goes : tmp ≢ p → d1.history ≡ next d0.history (wrote tmp bytes d0.history.latest) → is_shut (present d0) tmp ≡ false → d2.history ≡ next d1.history (synced d1.history.latest)
+      → Goes (IsNoTmp (only tmp p bytes)) (λ g. []) d0 d2 → MayStep (IsRenamed tmp p) d2.history d3.history → Goes (IsNoTmp (only tmp p bytes)) (replacing (only tmp p bytes)) d0 d3
+  rename_goes apart written free kept goes step =
+      let list = only tmp p bytes in
+      let r : Replacement = record { tmp = tmp; place = p; bytes = bytes } in
+      let own = apart_only tmp p bytes apart in
+      let staged_is : present d1 ≡ staged list (present d0) = ap (λ (h : History). h.latest.now) written in
+      let moving = moving_starts list d2 (are_ready list d0 d1 d2 staged_is kept own) in
+      all_goes list d1 staged_is (ap (λ b. cond b (Some tmp) None) free) kept goes
+      (moved_along list (moving_in_call list d2.history d2.history d3.history 0 r refl refl moving own step))
+
 -- ---- how it ends
 
 -- a rename of a file that stands finds it
-pub found_it : (tells : Bool) (from to : List (List ℕ)) (bytes : List ℕ) (old new : Drive) → (IsTrue tells → file_at (present old) from ≡ Some bytes) → (found : Bool) → RenameEnds tells from to old new (Ok found) → RenameEnds tells from to old new (Ok true)
+pub found_it : (tells : Bool) (from to : Names) (bytes : List ℕ) (old new : Drive) → (IsTrue tells → file_at (present old) from ≡ Some bytes) → (found : Bool) → RenameEnds tells from to old new (Ok found) → RenameEnds tells from to old new (Ok true)
 found_it tells from to bytes old new stands true ends = ends
 found_it tells from to bytes old new stands false ends = absurd (false≢true (sym ends.2 ∙ ap is_some (stands ends.0)))
 
-module _ (tells : Bool) (tmp p : List (List ℕ)) (bytes : List ℕ) (d0 d1 d2 d3 : Drive) where
+module _ (tells : Bool) (tmp p : Names) (bytes : List ℕ) (d0 d1 d2 d3 : Drive) where
   pub replace_ends : WriteEnds tells tmp bytes d0 d1 (Ok tt) → BarrierEnds tells d1 d2 (Ok tt) → RenameEnds tells tmp p d2 d3 (Ok true) → d0.faults ≤ d3.faults
       → (d4 : Drive) (r : Result (Unit {0}) FileErr) → BarrierEnds tells d3 d4 r → ReplaceEnds tells (only tmp p bytes) d0 d4 r
   replace_ends written kept moves fewer d4 (Ok _) ends = λ told.

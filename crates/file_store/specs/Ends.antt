@@ -1,66 +1,78 @@
 -- How each call of files ends: what each outcome leaves and tells.
 use Rattle.std.specs.Prelude.{◌≡◌, ℕ, ◌≤◌, Bool, true, false, IsTrue, List, [], ◌++◌, length, take, drop, Option, option_map, unwrap_or, Vec, Result, Ok, Err}
 use Rattle.std.specs.declared.alloc.Global.{Global}
+use Rattle.places.specs.Names.{Names}
 use Rattle.places.specs.Ground.{Ground, file_at, stands, is_shut}
 use Rattle.file_store.specs.Causes.{Rose}
-use Rattle.file_store.specs.Disk.{Drive, Disk, next, wrote, appended, renamed, removed, synced}
+use Rattle.file_store.specs.Disk.{Drive, next, wrote, appended, renamed, removed, synced}
 use Rattle.file_store.specs.Kinds.{kind_at, AreListed, IsListing}
 use Rattle.file_store.specs.declared.kinds.Kind.{Kind}
 use Rattle.file_store.specs.declared.kinds.Item.{Item}
-use Rattle.file_store.specs.declared.faults.FileErr.{FileErr}
-use Rattle.file_store.specs.declared.faults.FileErr.TheVariants.{Failed, Blocked, NoMemory}
+use Rattle.file_store.specs.declared.errors.FileErr.{FileErr}
+use Rattle.file_store.specs.declared.errors.FileErr.TheVariants.{Failed, Blocked, NoMemory}
 
--- what a read sees
+-- What a read sees.
 abbrev pub present : Drive → Ground
 present drive = drive.history.latest.now
 
--- where the files tell, the disk is as it was
+-- Where the files tell, the disk is as it was.
 abbrev pub Keeps : Bool → Drive → Drive → Type 0
 Keeps tells old new = IsTrue tells → new.history ≡ old.history
 
--- where the files tell, the disk has gone on to this one
-abbrev pub GoesOn : Bool → Drive → Drive → Disk → Type 0
-GoesOn tells old new disk = IsTrue tells → new.history ≡ next old.history disk
-
--- a call that only reads: its fault rose, or memory was wanting, and nothing changed
+-- A call that only reads: its fault rose, or memory was wanting, and nothing changed.
 abbrev pub ReadFails : Bool → Drive → Drive → FileErr → Type 0
 ReadFails tells old new Failed = Rose old.faults new.faults × Keeps tells old new
 ReadFails tells old new (Blocked at) = ⊥
 ReadFails tells old new NoMemory = Keeps tells old new
 
--- a call that changes nothing but by its effect, which `steps` names: Blocked never comes
+-- A call that removes a file or passes a barrier: its fault rose, or memory was wanting, and then
+-- nothing changed.
 abbrev pub ChangeFails : Bool → Drive → Drive → FileErr → Type 0
 ChangeFails tells old new Failed = Rose old.faults new.faults
 ChangeFails tells old new (Blocked at) = ⊥
 ChangeFails tells old new NoMemory = Keeps tells old new
 
--- a call that puts a file at the place, and may be refused for a file above or below it
-abbrev pub PutFails : Bool → List (List ℕ) → Drive → Drive → FileErr → Type 0
+-- A call that puts a file at the place: the same, and it may be refused for a file above or below.
+abbrev pub PutFails : Bool → Names → Drive → Drive → FileErr → Type 0
 PutFails tells place old new Failed = Rose old.faults new.faults
-PutFails tells place old new (Blocked at) = IsTrue tells × (at ≡ place) × (is_shut (present old) place ≡ true) × (new.history ≡ old.history)
+PutFails tells place old new (Blocked at) =
+    IsTrue tells × (at ≡ place)
+    × (is_shut (present old) place ≡ true)
+    × (new.history ≡ old.history)
 PutFails tells place old new NoMemory = Keeps tells old new
 
-abbrev pub KindEnds : Bool → List (List ℕ) → Drive → Drive → Result Kind FileErr → Type 0
-KindEnds tells place old new (Ok kind) = IsTrue tells → (new.history ≡ old.history) × (kind ≡ kind_at (present old) place)
+-- `kind` says what stands at the place.
+abbrev pub KindEnds : Bool → Names → Drive → Drive → Result Kind FileErr → Type 0
+KindEnds tells place old new (Ok kind) =
+    IsTrue tells → (new.history ≡ old.history) × (kind ≡ kind_at (present old) place)
 KindEnds tells place old new (Err e) = ReadFails tells old new e
 
-abbrev pub SizeEnds : Bool → List (List ℕ) → Drive → Drive → Result (Option ℕ) FileErr → Type 0
-SizeEnds tells place old new (Ok size) = IsTrue tells → (new.history ≡ old.history) × (size ≡ option_map (λ bytes. length bytes) (file_at (present old) place))
+-- `size` says how many bytes the file has, None where none stands.
+abbrev pub SizeEnds : Bool → Names → Drive → Drive → Result (Option ℕ) FileErr → Type 0
+SizeEnds tells place old new (Ok size) =
+    IsTrue tells
+    → (new.history ≡ old.history)
+    × (size ≡ option_map (λ bytes. length bytes) (file_at (present old) place))
 SizeEnds tells place old new (Err e) = ReadFails tells old new e
 
-abbrev pub ReadEnds : Bool → List (List ℕ) → Drive → Drive → Result (Option (Vec ℕ Global)) FileErr → Type 0
-ReadEnds tells place old new (Ok found) = IsTrue tells → (new.history ≡ old.history) × (option_map (λ v. v.items) found ≡ file_at (present old) place)
+-- `read` gives the bytes of the file, None where none stands.
+abbrev pub ReadEnds : Bool → Names → Drive → Drive → Result (Option (Vec ℕ Global)) FileErr → Type 0
+ReadEnds tells place old new (Ok found) =
+    IsTrue tells
+    → (new.history ≡ old.history)
+    × (option_map (λ v. v.items) found ≡ file_at (present old) place)
 ReadEnds tells place old new (Err e) = ReadFails tells old new e
 
--- the bytes of a file, none where it isn't there
-abbrev pub bytes_at : Ground → List (List ℕ) → List ℕ
+-- The bytes of a file, none where it isn't there.
+abbrev pub bytes_at : Ground → Names → List ℕ
 bytes_at g p = unwrap_or (file_at g p) []
 
--- the part from an offset on, as far as the file and the buffer go
+-- The part from an offset on, as far as the file and the buffer go.
 abbrev pub part_of : List ℕ → ℕ → ℕ → List ℕ
 part_of bytes from room = take room (drop from bytes)
 
-abbrev pub PartEnds : Bool → List (List ℕ) → ℕ → List ℕ → List ℕ → Drive → Drive → Result ℕ FileErr → Type 0
+-- `read_part` fills the buffer with that part, and says how many bytes it has.
+abbrev pub PartEnds : Bool → Names → ℕ → List ℕ → List ℕ → Drive → Drive → Result ℕ FileErr → Type 0
 PartEnds tells place from before after old new (Ok count) =
     (count ≤ length before)
     × (IsTrue tells → (new.history ≡ old.history)
@@ -68,38 +80,59 @@ PartEnds tells place from before after old new (Ok count) =
     × (after ≡ part_of (bytes_at (present old) place) from (length before) ++ drop count before))
 PartEnds tells place from before after old new (Err e) = ReadFails tells old new e
 
-abbrev pub ListEnds : Bool → List (List ℕ) → Drive → Drive → Result (Vec Item Global) FileErr → Type 0
+-- `list` gives one item per name directly below the place.
+abbrev pub ListEnds : Bool → Names → Drive → Drive → Result (Vec Item Global) FileErr → Type 0
 ListEnds tells place old new (Ok items) =
-    AreListed items.items × (IsTrue tells → (new.history ≡ old.history) × IsListing (present old) place items.items)
+    AreListed items.items
+    × (IsTrue tells
+    → (new.history ≡ old.history) × IsListing (present old) place items.items)
 ListEnds tells place old new (Err e) = ReadFails tells old new e
 
-abbrev pub WriteEnds : Bool → List (List ℕ) → List ℕ → Drive → Drive → Result (Unit {0}) FileErr → Type 0
+-- `write` makes or replaces the file.
+abbrev pub WriteEnds : Bool → Names → List ℕ → Drive → Drive → Result (Unit {0}) FileErr → Type 0
 WriteEnds tells place bytes old new (Ok _) =
-    IsTrue tells → (new.history ≡ next old.history (wrote place bytes old.history.latest)) × (is_shut (present old) place ≡ false)
+    IsTrue tells
+    → (new.history ≡ next old.history (wrote place bytes old.history.latest))
+    × (is_shut (present old) place ≡ false)
 WriteEnds tells place bytes old new (Err e) = PutFails tells place old new e
 
-abbrev pub AppendEnds : Bool → List (List ℕ) → List ℕ → Drive → Drive → Result (Unit {0}) FileErr → Type 0
+-- `append` adds to the end of the file.
+abbrev pub AppendEnds : Bool → Names → List ℕ → Drive → Drive → Result (Unit {0}) FileErr → Type 0
 AppendEnds tells place bytes old new (Ok _) =
-    IsTrue tells → (new.history ≡ next old.history (appended place bytes old.history.latest)) × (is_shut (present old) place ≡ false)
+    IsTrue tells
+    → (new.history ≡ next old.history (appended place bytes old.history.latest))
+    × (is_shut (present old) place ≡ false)
 AppendEnds tells place bytes old new (Err e) = PutFails tells place old new e
 
--- False comes only where the files tell, and no file stands at `from`.
-abbrev pub RenameEnds : Bool → List (List ℕ) → List (List ℕ) → Drive → Drive → Result Bool FileErr → Type 0
+-- `rename` moves the file. False comes only where the files tell, and no file stands at `from`.
+abbrev pub RenameEnds : Bool → Names → Names → Drive → Drive → Result Bool FileErr → Type 0
 RenameEnds tells from to old new (Ok true) =
     IsTrue tells
-    → (new.history ≡ next old.history (renamed from to old.history.latest)) × (stands (present old) from ≡ true) × (is_shut (present old) to ≡ false)
-RenameEnds tells from to old new (Ok false) = IsTrue tells × (new.history ≡ old.history) × (stands (present old) from ≡ false)
+    → (new.history ≡ next old.history (renamed from to old.history.latest))
+    × (stands (present old) from ≡ true)
+    × (is_shut (present old) to ≡ false)
+RenameEnds tells from to old new (Ok false) =
+    IsTrue tells × (new.history ≡ old.history) × (stands (present old) from ≡ false)
 RenameEnds tells from to old new (Err Failed) = Rose old.faults new.faults
 RenameEnds tells from to old new (Err (Blocked at)) =
-    IsTrue tells × (at ≡ to) × (stands (present old) from ≡ true) × (is_shut (present old) to ≡ true) × (new.history ≡ old.history)
+    IsTrue tells × (at ≡ to)
+    × (stands (present old) from ≡ true)
+    × (is_shut (present old) to ≡ true)
+    × (new.history ≡ old.history)
 RenameEnds tells from to old new (Err NoMemory) = Keeps tells old new
 
-abbrev pub RemoveEnds : Bool → List (List ℕ) → Drive → Drive → Result Bool FileErr → Type 0
+-- `remove` removes the file. False comes where none stands there.
+abbrev pub RemoveEnds : Bool → Names → Drive → Drive → Result Bool FileErr → Type 0
 RemoveEnds tells place old new (Ok true) =
-    IsTrue tells → (new.history ≡ next old.history (removed place old.history.latest)) × (stands (present old) place ≡ true)
-RemoveEnds tells place old new (Ok false) = IsTrue tells → (new.history ≡ old.history) × (stands (present old) place ≡ false)
+    IsTrue tells
+    → (new.history ≡ next old.history (removed place old.history.latest))
+    × (stands (present old) place ≡ true)
+RemoveEnds tells place old new (Ok false) =
+    IsTrue tells → (new.history ≡ old.history) × (stands (present old) place ≡ false)
 RemoveEnds tells place old new (Err e) = ChangeFails tells old new e
 
+-- `barrier` makes safe what stands.
 abbrev pub BarrierEnds : Bool → Drive → Drive → Result (Unit {0}) FileErr → Type 0
-BarrierEnds tells old new (Ok _) = IsTrue tells → new.history ≡ next old.history (synced old.history.latest)
+BarrierEnds tells old new (Ok _) =
+    IsTrue tells → new.history ≡ next old.history (synced old.history.latest)
 BarrierEnds tells old new (Err e) = ChangeFails tells old new e

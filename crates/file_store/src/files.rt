@@ -4,7 +4,7 @@ ghost use Rattle.places.specs.Ground.{IsGround};
 ghost use Rattle.file_store.specs.Disk.{Drive, MayStep, IsWritten, IsRenamed, IsRemoved, IsSynced};
 ghost use Rattle.file_store.specs.Ends.{present, KindEnds, SizeEnds, ReadEnds, PartEnds, ListEnds, WriteEnds, AppendEnds, RenameEnds, RemoveEnds, BarrierEnds};
 
-use crate::faults::FileErr;
+use crate::errors::FileErr;
 use crate::kinds::{Item, Kind};
 use places::Place;
 use std::alloc::Global;

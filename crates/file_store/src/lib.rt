@@ -1,22 +1,20 @@
-//! The disk and the outputs as traits with a written meaning, their forms in memory, and the faults of all layers.
+//! The disk and the outputs as traits with a written meaning, and their forms in memory.
 #![tactic(auto)]
 
-mod faults;
+mod errors;
 mod files;
 mod kinds;
-mod lines;
 mod memory;
 mod replacing;
 mod sinks;
 
-pub use faults::{Fault, FileErr, SinkErr, Trouble};
+pub use errors::{FileErr, SinkErr};
 pub use files::Files;
 pub use kinds::{Item, Kind};
-pub use lines::Line;
-pub use memory::{MemErr, MemFiles};
+pub use memory::{MemErr, MemFiles, MemSink};
 pub use places::{Bytes, Place, PlaceErr, Text};
-pub use replacing::{Replacement, replace, replace_all};
-pub use sinks::{MemSink, Sink, write_whole};
+pub use replacing::{Replacement, remove_all, replace, replace_all};
+pub use sinks::{Sink, write_whole};
 
 #[cfg(test)]
 mod tests;

@@ -3,13 +3,13 @@
 // The order is what keeps the promise: all bytes are written to temporary places, a barrier makes them safe, each is
 // renamed onto its place, and a second barrier makes the names safe. A reader never sees a part of a file. After a
 // failure each place has the old bytes or the new ones, and a temporary file may be left.
-ghost use Rattle.std.specs.Prelude.{◌≢◌, ◌≤◌, IsTrue};
-ghost use Rattle.file_store.specs.Disk.{Since};
-ghost use Rattle.file_store.specs.Ends.{present};
-ghost use Rattle.file_store.specs.Replaced.{only, ReplaceEnds, AreApart, AreDistinct, Between, Allows, IsOther, IsFile, IsNoTmp, IsNew};
+ghost use Rattle.std.specs.Prelude.{◌≢◌, ◌≤◌, IsTrue, [], ◌∷◌};
+ghost use Rattle.file_store.specs.Course.{Goes};
+ghost use Rattle.file_store.specs.Replaced.{only, ReplaceEnds, AreApart, IsNoTmp, round_of, replacing};
 ghost use Rattle.file_store.specs.Rounds.{StageEnds, AreReady, MoveEnds};
+ghost use Rattle.file_store.specs.Removed.{Everywhere, removal_of, RemoveAllEnds};
 
-use crate::faults::FileErr;
+use crate::errors::FileErr;
 use crate::files::Files;
 use places::{Bytes, Place};
 use std::alloc::Global;
@@ -35,14 +35,9 @@ pub fn replace<F: Files>(
     ensures ends { ReplaceEnds F.tells (only tmp.now place.now bytes.now) (F.drive files.old)
         (F.drive files.new) result }
 
-    // Whatever the answer, each place but the temporary one has what it had, or the file is new.
-    ensures left { IsTrue F.tells → Between (IsOther tmp.now) (IsFile place.now bytes.now)
-        (present (F.drive files.old)) (present (F.drive files.new)) }
-
-    // At each moment a crash leaves at the place what it might have left at the start, or the new bytes.
-    ensures crash { IsTrue F.tells → Since (Allows (IsOther tmp.now) (IsFile place.now bytes.now)
-        (F.drive files.old).history.latest) (F.drive files.old).history
-        (F.drive files.new).history }
+    // Whatever the answer, at each moment the place has the old bytes or the new ones, and a crash leaves no others.
+    ensures crash { IsTrue F.tells → Goes (IsNoTmp (only tmp.now place.now bytes.now))
+        (replacing (only tmp.now place.now bytes.now)) (F.drive files.old) (F.drive files.new) }
 {
     files.write(alloc, tmp, bytes)?;
     files.barrier(alloc)?;
@@ -59,13 +54,8 @@ pub fn replace_all<F: Files>(
     requires { AreApart list.now }
     ensures later { (F.drive files.old).faults ≤ (F.drive files.new).faults }
     ensures ends { ReplaceEnds F.tells list.now (F.drive files.old) (F.drive files.new) result }
-    ensures left { IsTrue F.tells → Between (IsNoTmp list.now) (IsNew list.now)
-        (present (F.drive files.old)) (present (F.drive files.new)) }
-
-    // Where no two have one place, a crash leaves each place old or new.
-    ensures crash { IsTrue F.tells → AreDistinct list.now → Since
-        (Allows (IsNoTmp list.now) (IsNew list.now) (F.drive files.old).history.latest)
-        (F.drive files.old).history (F.drive files.new).history }
+    ensures crash { IsTrue F.tells → Goes (IsNoTmp list.now) (replacing list.now) (F.drive files.old)
+        (F.drive files.new) }
 {
     stage_all(alloc, files, list)?;
     files.barrier(alloc)?;
@@ -77,11 +67,7 @@ pub fn replace_all<F: Files>(
 fn stage_all<F: Files>(alloc: Global, files: &mut F, list: &[Replacement]) -> Result<(), FileErr>
     ensures later { (F.drive files.old).faults ≤ (F.drive files.new).faults }
     ensures ends { StageEnds F.tells list.now (F.drive files.old) (F.drive files.new) result }
-    ensures left { IsTrue F.tells → Between (IsNoTmp list.now) (IsNew list.now)
-        (present (F.drive files.old)) (present (F.drive files.new)) }
-    ensures crash { IsTrue F.tells → Since (Allows (IsNoTmp list.now) (IsNew list.now)
-        (F.drive files.old).history.latest) (F.drive files.old).history
-        (F.drive files.new).history }
+    ensures crash { IsTrue F.tells → Goes (IsNoTmp list.now) (λ g. []) (F.drive files.old) (F.drive files.new) }
 {
     for replacement in list {
         files.write(alloc, &replacement.tmp, replacement.bytes.as_slice())?;
@@ -95,14 +81,24 @@ fn move_all<F: Files>(alloc: Global, files: &mut F, list: &[Replacement]) -> Res
     requires staged { IsTrue F.tells → AreReady list.now (F.drive files.old) }
     ensures later { (F.drive files.old).faults ≤ (F.drive files.new).faults }
     ensures ends { MoveEnds F.tells list.now (F.drive files.old) (F.drive files.new) result }
-    ensures left { IsTrue F.tells → Between (IsNoTmp list.now) (IsNew list.now)
-        (present (F.drive files.old)) (present (F.drive files.new)) }
-    ensures crash { IsTrue F.tells → AreDistinct list.now → Since
-        (Allows (IsNoTmp list.now) (IsNew list.now) (F.drive files.old).history.latest)
-        (F.drive files.old).history (F.drive files.new).history }
+    ensures crash { IsTrue F.tells → Goes (IsNoTmp list.now) (λ g. round_of list.now ∷ []) (F.drive files.old)
+        (F.drive files.new) }
 {
     for replacement in list {
         files.rename(alloc, &replacement.tmp, &replacement.place)?;
     }
     Ok(())
+}
+
+/// Removes the files at the places, at the price of one barrier.
+pub fn remove_all<F: Files>(alloc: Global, files: &mut F, list: &[Place]) -> Result<(), FileErr>
+    ensures later { (F.drive files.old).faults ≤ (F.drive files.new).faults }
+    ensures ends { RemoveAllEnds F.tells list.now (F.drive files.old) (F.drive files.new) result }
+    ensures crash { IsTrue F.tells → Goes Everywhere (λ g. removal_of list.now ∷ []) (F.drive files.old)
+        (F.drive files.new) }
+{
+    for place in list {
+        files.remove(alloc, place)?;
+    }
+    files.barrier(alloc)
 }

@@ -1,19 +1,22 @@
 // The files that stand at one moment.
-ghost use Rattle.std.specs.Prelude.{◌≡◌, ◌||◌, IfOk, OnOk, OnErr, option_copied, option_map};
+ghost use Rattle.std.specs.Prelude.{◌≡◌, ◌||◌, not, List, ℕ, IfOk, OnOk, OnErr, option_copied, option_map};
 ghost use Rattle.std.specs.FinMap.{empty, insert, remove};
 ghost use Rattle.std.specs.List.{list_any};
-ghost use Rattle.std.specs.BTreeMap.{keys, IsOrdered};
-ghost use Rattle.places.specs.Names.{is_above};
+ghost use Rattle.std.specs.BTreeMap.{keys, is_at, IsOrdered};
+ghost use Rattle.std.specs.BTreeSet.{contains};
+ghost use Rattle.places.specs.Names.{Names, is_above};
 ghost use Rattle.places.specs.Order.{place_cmp};
 ghost use Rattle.places.specs.Ground.{file_at, stands, is_shut, stands_below, IsGround};
+ghost use Rattle.file_store.specs.Course.{with_file};
+ghost use Rattle.file_store.specs.Disk.{same_file};
 ghost use Rattle.file_store.specs.Kinds.{AreListed, IsListing};
-ghost use Rattle.file_store.specs.Stored.{plain, IsListOf};
+ghost use Rattle.file_store.specs.Memory.Lists.{plain, ground_of, IsListOf};
 
 use crate::kinds::Item;
 use crate::memory::names::{items_of, kinds_below};
 use places::Place;
 use std::alloc::{AllocError, Global};
-use std::collections::BTreeMap;
+use std::collections::{BTreeMap, BTreeSet};
 use std::marker::Model;
 
 #[derive(Drop)]
@@ -23,7 +26,7 @@ pub(crate) struct Contents {
 
 impl Model for Contents {
     ghost use Rattle.places.specs.Ground.{Ground, ground_code};
-    ghost use Rattle.file_store.specs.Stored.{ground_of};
+    ghost use Rattle.file_store.specs.Memory.Lists.{ground_of};
 
     ghost Value = { Ground };
 
@@ -74,6 +77,50 @@ impl Contents {
         ensures { self.new ≡ remove self.old place.now }
     {
         let _ = self.files.remove(place);
+    }
+
+    // Puts a file at the place, or removes it.
+    pub(crate) fn set(
+        &mut self,
+        alloc: Global,
+        place: &Place,
+        file: Option<Vec<u8>>,
+    ) -> Result<(), AllocError>
+        ensures { OnOk result (self.new ≡ with_file place.now (option_map (λ bytes. bytes.items)
+            file) self.old) }
+    {
+        match file {
+            Some(bytes) => self.insert(place.try_clone(alloc)?, bytes),
+            None => {
+                self.remove(place);
+                Ok(())
+            }
+        }
+    }
+
+    pub(crate) fn try_clone(&self, alloc: Global) -> Result<Contents, AllocError>
+        ensures { IfOk result (λ copy. copy ≡ self.now) }
+    {
+        cloned(alloc, &self.files)
+    }
+
+    // Whether the other files have something else at the place.
+    pub(crate) fn differs(&self, others: &Contents, place: &Place) -> bool
+        ensures { result ≡ not (same_file (file_at self.now place.now) (file_at others.now place.now)) }
+    {
+        !is_same(self.get(place), others.get(place))
+    }
+
+    // Adds the places of the files to the set.
+    pub(crate) fn note_places(
+        &self,
+        alloc: Global,
+        named: &mut BTreeSet<Place>,
+    ) -> Result<(), AllocError>
+        ensures { OnOk result ((q : Names) → contains place_cmp named.new q ≡
+            (contains place_cmp named.old q || stands self.now q)) }
+    {
+        note_keys(alloc, &self.files, named)
     }
 
     // Whether a file stands above or below the place.
@@ -130,4 +177,40 @@ fn copied(
         list.push((place.try_clone(alloc)?, bytes.as_slice().to_vec(alloc)?))?;
     }
     Ok(list)
+}
+
+fn cloned(alloc: Global, files: &BTreeMap<Place, Vec<u8>>) -> Result<Contents, AllocError>
+    ensures { IfOk result (λ copy. copy ≡ ground_of files.now.entries) }
+{
+    let mut copy = Contents::new(alloc);
+    for (place, bytes) in files {
+        copy.insert(place.try_clone(alloc)?, bytes.as_slice().to_vec(alloc)?)?;
+    }
+    Ok(copy)
+}
+
+fn note_keys(
+    alloc: Global,
+    files: &BTreeMap<Place, Vec<u8>>,
+    named: &mut BTreeSet<Place>,
+) -> Result<(), AllocError>
+    ensures { OnOk result ((q : Names) → contains place_cmp named.new q ≡
+        (contains place_cmp named.old q || list_any (is_at (place_cmp q)) (keys files.now))) }
+{
+    for place in files.keys() {
+        named.insert(place.try_clone(alloc)?)?;
+    }
+    Ok(())
+}
+
+// Whether both are the same file, or both are absent.
+fn is_same(one: Option<&Vec<u8>>, other: Option<&Vec<u8>>) -> bool
+    ensures { result ≡ same_file (option_map (λ bytes. bytes.items) (option_copied one.entry))
+        (option_map (λ bytes. bytes.items) (option_copied other.entry)) }
+{
+    match (one, other) {
+        (Some(one), Some(other)) => one.as_slice() == other.as_slice(),
+        (None, None) => true,
+        _ => false,
+    }
 }

@@ -3,13 +3,17 @@
 ghost use Rattle.std.specs.Prelude.{◌≡◌, ◌++◌, [], ◌∷◌, List, ℕ, true, false, OnOk, OnErr, IfOk, option_copied, option_map, unwrap_or};
 ghost use Rattle.std.specs.FinMap.{insert};
 ghost use Rattle.std.proofs.Props.{props};
+ghost use Rattle.places.specs.Names.{Names};
 ghost use Rattle.places.specs.Ground.{file_at, stands, stands_below, is_shut, IsGround};
 ghost use Rattle.file_store.specs.Kinds.{AreListed, IsListing};
-ghost use Rattle.file_store.specs.Memory.{history_of};
-ghost use Rattle.file_store.specs.Stored.{IsListOf};
+ghost use Rattle.file_store.specs.Memory.Calls.{history_of};
+ghost use Rattle.file_store.specs.Memory.Lists.{IsListOf};
 
 use crate::kinds::Item;
 use crate::memory::contents::Contents;
+use crate::memory::image::{any_clash, chosen, open_places};
+use crate::memory::parts::copied;
+use crate::memory::replay::replayed;
 use places::Place;
 use std::alloc::{AllocError, Global};
 
@@ -29,12 +33,13 @@ pub(crate) struct MemDisk {
     calls: Vec<Call>,
     current: Contents,
     ghost clash_free: { IsGround current } by { Prim.hlevel props },
-    ghost consistent: { (q : List (List ℕ)) → file_at current q ≡ file_at (history_of first calls.items).latest.now q } by { Prim.hlevel props },
+    ghost consistent: { (q : Names) → file_at current q ≡ file_at (history_of first calls.items).latest.now q } by { Prim.hlevel props },
 }
 
 impl MemDisk {
-    ghost use Rattle.file_store.specs.MemDisk.{history_in, ground_in};
-    ghost use Rattle.file_store.specs.Memory.{began};
+    ghost use Rattle.file_store.specs.Memory.Disk.{history_in, ground_in, IsImageBy};
+    ghost use Rattle.file_store.specs.Memory.Calls.{began};
+    ghost use Rattle.file_store.specs.Memory.Images.{AreOpen};
     ghost use Rattle.file_store.specs.Disk.{next, wrote, appended, renamed, removed, synced};
 
     // A disk that begins with these files. They are given twice, since it goes on with the second ones.
@@ -82,6 +87,28 @@ impl MemDisk {
         ensures { IfOk result (λ list. IsListOf (ground_in self.now) list.items) }
     {
         self.current.to_list(alloc)
+    }
+
+    // The places at which a crash has a choice, in byte order.
+    pub(crate) fn open_places(&self, alloc: Global) -> Result<Vec<Place>, AllocError>
+        ensures { IfOk result (λ places. AreOpen (history_in self.now).latest places.items) }
+    {
+        let moment = replayed(alloc, &self.first, self.calls.as_slice())?;
+        open_places(alloc, &moment)
+    }
+
+    // What a crash leaves by a choice for each of them. None where a file would stand above another.
+    pub(crate) fn image(&self, alloc: Global, choices: &[u8]) -> Result<Option<MemDisk>, AllocError>
+        ensures { IfOk result (λ found. IsImageBy self.now choices.now found) }
+    {
+        let moment = replayed(alloc, &self.first, self.calls.as_slice())?;
+        let places = open_places(alloc, &moment)?;
+        let left = chosen(alloc, &moment, places.as_slice(), choices)?;
+        if any_clash(&left, places.as_slice()) {
+            return Ok(None);
+        }
+        let first = left.try_clone(alloc)?;
+        Ok(Some(MemDisk::begin(alloc, first, left)))
     }
 
     // The names directly below a place, each with what stands there.
@@ -186,17 +213,6 @@ impl MemDisk {
     {
         self.calls.push(Call::Barrier)?;
         Ok(())
-    }
-}
-
-// The bytes of a file. An absent one counts as empty.
-fn copied(alloc: Global, file: Option<&Vec<u8>>) -> Result<Vec<u8>, AllocError>
-    ensures { IfOk result (λ copy. copy.items ≡ unwrap_or
-        (option_map (λ bytes. bytes.items) (option_copied file.entry)) []) }
-{
-    match file {
-        Some(bytes) => Ok(bytes.as_slice().to_vec(alloc)?),
-        None => Ok(Vec::new(alloc)),
     }
 }
 

@@ -2,10 +2,10 @@
 //
 // Each call is counted before anything else. One that fails before its effect ends there; one that fails after its
 // effect does all that it would do, and answers Failed.
-ghost use Rattle.std.specs.Prelude.{◌≡◌, ◌≤◌, IsTrue, IfOk, MatchResult};
+ghost use Rattle.std.specs.Prelude.{◌≡◌, ◌≤◌, IsTrue, IfOk, IfSome, MatchResult};
 ghost use Rattle.file_store.specs.declared.memory.errors.MemErr.TheVariants.{NoMemory};
 
-use crate::faults::FileErr;
+use crate::errors::FileErr;
 use crate::files::Files;
 use crate::kinds::{Item, Kind};
 use crate::memory::contents::Contents;
@@ -26,15 +26,16 @@ pub struct MemFiles {
 
 impl MemFiles {
     ghost use Rattle.std.specs.FinMap.{empty};
-    ghost use Rattle.file_store.specs.Memory.{fresh};
+    ghost use Rattle.file_store.specs.Memory.Calls.{untouched};
     ghost use Rattle.file_store.specs.Ends.{present};
-    ghost use Rattle.file_store.specs.Stored.{IsListOf};
-    ghost use Rattle.file_store.specs.MemFiles.{drive_of, ListEnds};
-    ghost use Rattle.file_store.specs.Plan.{NoneFails};
+    ghost use Rattle.file_store.specs.Memory.Lists.{IsListOf};
+    ghost use Rattle.file_store.specs.Memory.Files.{drive_of, ListEnds, ImageEnds};
+    ghost use Rattle.file_store.specs.Memory.Images.{AreOpen};
+    ghost use Rattle.file_store.specs.Memory.Plan.{NoneFails};
 
     /// No file, and no call that fails.
     pub fn new(alloc: Global) -> MemFiles
-        ensures drive { drive_of result ≡ fresh empty }
+        ensures drive { drive_of result ≡ untouched empty }
         ensures plan { NoneFails result.plan }
     {
         MemFiles {
@@ -50,7 +51,7 @@ impl MemFiles {
         ensures plan { IfOk result (λ files. NoneFails files.plan) }
     {
         let first = contents_of(alloc, list.as_slice())?;
-        let current = contents_of(alloc, list.as_slice())?;
+        let current = first.try_clone(alloc)?;
         Ok(MemFiles {
             disk: MemDisk::begin(alloc, first, current),
             plan: Plan::new(alloc),
@@ -62,6 +63,38 @@ impl MemFiles {
         ensures { MatchResult result (λ list. IsListOf (present (drive_of self.now)) list.items) (λ e. e ≡ NoMemory) }
     {
         Ok(self.disk.to_list(alloc)?)
+    }
+
+    /// The places at which a crash may leave something else than what stands there, in byte order.
+    pub fn open_places(&self, alloc: Global) -> Result<Vec<Place>, MemErr>
+        ensures { MatchResult result (λ places. AreOpen (drive_of self.now).history.latest places.items)
+            (λ e. e ≡ NoMemory) }
+    {
+        Ok(self.disk.open_places(alloc)?)
+    }
+
+    /// What a crash leaves by a choice for each of them, the first choice for the first, all of it safe, and no call
+    /// that fails. Choice 0 leaves what is safe there, 1 what stands there now. Of a torn file 2 leaves the first half
+    /// and 3 as many zero bytes. A missing choice counts as 0, and any other as 1. None where a file would stand above
+    /// another.
+    pub fn image(&self, alloc: Global, choices: &[u8]) -> Result<Option<MemFiles>, MemErr>
+        ensures ends { ImageEnds self.now choices.now result }
+        ensures plan { IfOk result (λ found. IfSome found (λ image. NoneFails image.plan)) }
+    {
+        match self.disk.image(alloc, choices)? {
+            Some(disk) => Ok(Some(MemFiles {
+                disk,
+                plan: Plan::new(alloc),
+            })),
+            None => Ok(None),
+        }
+    }
+
+    /// How many calls were made.
+    pub fn calls(&self) -> u64
+        ensures { result ≡ self.now.plan.calls }
+    {
+        self.plan.calls()
     }
 
     /// The calls with these numbers, counted from 1, fail without effect or after their effect.
@@ -83,11 +116,12 @@ impl MemFiles {
 
 impl Files for MemFiles {
     ghost use Rattle.std.specs.Prelude.{true};
-    ghost use Rattle.file_store.specs.MemDisk.{grounded_in};
-    ghost use Rattle.file_store.specs.MemFiles.{drive_of};
-    ghost use Rattle.file_store.specs.Disk.{MayStep, IsWritten, IsRenamed, IsRemoved, IsSynced};
+    ghost use Rattle.file_store.specs.Memory.Disk.{grounded_in};
+    ghost use Rattle.file_store.specs.Memory.Files.{drive_of};
+    ghost use Rattle.file_store.specs.Disk.{MayStep, IsWritten, IsRenamed, IsRemoved, IsSynced, wrote, appended, renamed, removed, synced};
     ghost use Rattle.file_store.specs.Ends.{KindEnds, SizeEnds, ReadEnds, PartEnds, ListEnds, WriteEnds, AppendEnds, RenameEnds, RemoveEnds, BarrierEnds};
-    ghost use Rattle.file_store.specs.Turns.{ReadsByTurn, ChangesByTurn, writes, appends, renames, removes, syncs};
+    ghost use Rattle.file_store.specs.Memory.Calls.{with_change, with_change_at};
+    ghost use Rattle.file_store.specs.Memory.Turns.{ReadsByTurn, ChangesByTurn};
 
     ghost tells = { true };
 
@@ -177,7 +211,7 @@ impl Files for MemFiles {
         ensures ends { WriteEnds true place.now bytes.now (drive_of self.old) (drive_of self.new) result }
         ensures steps { IsTrue true → MayStep (IsWritten place.now) (drive_of self.old).history
             (drive_of self.new).history }
-        ensures turn { ChangesByTurn (writes place.now bytes.now) self.old self.new result }
+        ensures turn { ChangesByTurn (with_change (wrote place.now bytes.now)) self.old self.new result }
     {
         let turn = self.plan.next();
         if turn == Turn::FailsBefore {
@@ -197,7 +231,7 @@ impl Files for MemFiles {
         ensures ends { AppendEnds true place.now bytes.now (drive_of self.old) (drive_of self.new) result }
         ensures steps { IsTrue true → MayStep (IsWritten place.now) (drive_of self.old).history
             (drive_of self.new).history }
-        ensures turn { ChangesByTurn (appends place.now bytes.now) self.old self.new result }
+        ensures turn { ChangesByTurn (with_change (appended place.now bytes.now)) self.old self.new result }
     {
         let turn = self.plan.next();
         if turn == Turn::FailsBefore {
@@ -217,7 +251,7 @@ impl Files for MemFiles {
         ensures ends { RenameEnds true from.now to.now (drive_of self.old) (drive_of self.new) result }
         ensures steps { IsTrue true → MayStep (IsRenamed from.now to.now)
             (drive_of self.old).history (drive_of self.new).history }
-        ensures turn { ChangesByTurn (renames from.now to.now) self.old self.new result }
+        ensures turn { ChangesByTurn (with_change_at from.now (renamed from.now to.now)) self.old self.new result }
     {
         let turn = self.plan.next();
         if turn == Turn::FailsBefore {
@@ -242,7 +276,7 @@ impl Files for MemFiles {
         ensures ends { RemoveEnds true place.now (drive_of self.old) (drive_of self.new) result }
         ensures steps { IsTrue true → MayStep (IsRemoved place.now) (drive_of self.old).history
             (drive_of self.new).history }
-        ensures turn { ChangesByTurn (removes place.now) self.old self.new result }
+        ensures turn { ChangesByTurn (with_change_at place.now (removed place.now)) self.old self.new result }
     {
         let turn = self.plan.next();
         if turn == Turn::FailsBefore {
@@ -261,7 +295,7 @@ impl Files for MemFiles {
         ensures later { (drive_of self.old).faults ≤ (drive_of self.new).faults }
         ensures ends { BarrierEnds true (drive_of self.old) (drive_of self.new) result }
         ensures steps { IsTrue true → MayStep IsSynced (drive_of self.old).history (drive_of self.new).history }
-        ensures turn { ChangesByTurn syncs self.old self.new result }
+        ensures turn { ChangesByTurn (with_change synced) self.old self.new result }
     {
         let turn = self.plan.next();
         if turn == Turn::FailsBefore {

@@ -1,5 +1,5 @@
 // A list of files, put where they stand.
-ghost use Rattle.file_store.specs.Stored.{AddEnds, GatherEnds};
+ghost use Rattle.file_store.specs.Memory.Lists.{AddEnds, GatherEnds};
 
 use crate::memory::contents::Contents;
 use crate::memory::errors::MemErr;

@@ -1,6 +1,33 @@
-// A part of a file, copied into a buffer.
-ghost use Rattle.std.specs.Prelude.{◌≡◌, ◌++◌, length, drop};
+// Files and parts of them, copied.
+ghost use Rattle.std.specs.Prelude.{◌≡◌, ◌++◌, [], length, drop, IfOk, option_copied, option_map, unwrap_or};
 ghost use Rattle.file_store.specs.Ends.{part_of};
+
+use std::alloc::{AllocError, Global};
+
+/// The bytes of a file. An absent one counts as empty.
+pub(crate) fn copied(alloc: Global, file: Option<&Vec<u8>>) -> Result<Vec<u8>, AllocError>
+    ensures { IfOk result (λ copy. copy.items ≡ unwrap_or
+        (option_map (λ bytes. bytes.items) (option_copied file.entry)) []) }
+{
+    match file {
+        Some(bytes) => Ok(bytes.as_slice().to_vec(alloc)?),
+        None => Ok(Vec::new(alloc)),
+    }
+}
+
+/// The bytes of a file, None where it is absent.
+pub(crate) fn file_copied(
+    alloc: Global,
+    file: Option<&Vec<u8>>,
+) -> Result<Option<Vec<u8>>, AllocError>
+    ensures { IfOk result (λ copy. option_map (λ bytes. bytes.items) copy ≡ option_map
+        (λ bytes. bytes.items) (option_copied file.entry)) }
+{
+    match file {
+        Some(bytes) => Ok(Some(bytes.as_slice().to_vec(alloc)?)),
+        None => Ok(None),
+    }
+}
 
 /// Copies the bytes from that offset on, as far as they and the buffer go, and says how many.
 pub(crate) fn copy_part(bytes: &[u8], from: u64, buffer: &mut [u8]) -> usize

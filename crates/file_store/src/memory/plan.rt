@@ -2,9 +2,9 @@
 ghost use Rattle.std.specs.Prelude.{◌≡◌, ◌≢◌, ◌≤◌, OnOk, IfErr};
 ghost use Rattle.file_store.specs.Causes.{Rose};
 ghost use Rattle.file_store.specs.declared.memory.plan.Turn.TheVariants.{Works};
-ghost use Rattle.file_store.specs.declared.faults.FileErr.TheVariants.{Failed};
+ghost use Rattle.file_store.specs.declared.errors.FileErr.TheVariants.{Failed};
 
-use crate::faults::FileErr;
+use crate::errors::FileErr;
 use std::alloc::Global;
 
 /// What happens to a call.
@@ -26,7 +26,7 @@ pub(crate) struct Plan {
 }
 
 impl Plan {
-    ghost use Rattle.file_store.specs.Plan.{NoneFails, is_stopped, turn_at, turn_of, counted};
+    ghost use Rattle.file_store.specs.Memory.Plan.{NoneFails, is_stopped, turn_at, turn_of, counted};
 
     // None fails.
     pub(crate) fn new(alloc: Global) -> Plan
@@ -49,10 +49,23 @@ impl Plan {
         self.after = after;
     }
 
+    pub(crate) fn fail_before(&mut self, before: Vec<u64>)
+        ensures { self.new ≡ record self.old { before = before } }
+    {
+        self.before = before;
+    }
+
     pub(crate) fn stop_at(&mut self, n: u64)
         ensures { self.new ≡ record self.old { stop = Some n } }
     {
         self.stop = Some(n);
+    }
+
+    // How many calls were counted.
+    pub(crate) fn calls(&self) -> u64
+        ensures { result ≡ self.now.calls }
+    {
+        self.calls
     }
 
     // Counts a call, and says what happens to it.

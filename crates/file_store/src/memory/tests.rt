@@ -1,8 +1,9 @@
 // What no clause says: texts, and that a call can succeed. And worked examples of the calls that fail.
 use super::*;
-use crate::faults::FileErr;
+use crate::errors::FileErr;
 use crate::files::Files;
 use crate::kinds::Kind;
+use crate::replacing::replace;
 use places::Place;
 use std::alloc::Global;
 use std::process::Abort;
@@ -155,6 +156,93 @@ fn stops_at_a_call(rt: HostRuntime) {
     put(&rt, alloc, &mut files, "/a", b"1");
     assert!(rt; matches!(&files.write(alloc, &a, b"2"), Err(FileErr::Failed)));
     assert!(rt; matches!(&files.kind(alloc, &a), Err(FileErr::Failed)));
+    assert_eq!(rt; files.calls(), 3);
+}
+
+// What a crash leaves by the choices stands at these places, and nothing at those without bytes.
+fn leaves(
+    rt: &impl Abort,
+    alloc: Global,
+    files: &MemFiles,
+    choices: &[u8],
+    left: &[(&str, Option<&[u8]>)],
+) {
+    let image = files.image(alloc, choices).expect(rt, "memory");
+    let mut image = image.expect(rt, "an image");
+    for (text, bytes) in left {
+        let found = image
+            .read(alloc, &place(rt, alloc, text))
+            .expect(rt, "read");
+        match (found, bytes) {
+            (Some(found), Some(bytes)) => assert_eq!(rt; found.as_slice(), *bytes, "at {text}"),
+            (None, None) => {}
+            _ => panic!(rt; "not as chosen at {text}"),
+        }
+    }
+}
+
+#[test]
+fn image_of_a_replacement(rt: HostRuntime) -> Result<(), Fail> {
+    let alloc = rt.alloc();
+    let head = place(&rt, alloc, "/d/.dlrepo/HEAD");
+    let tmp = place(&rt, alloc, "/d/.dlrepo/tmp/HEAD");
+    let old = (head.try_clone(alloc)?, b"old".to_vec(alloc)?);
+    let mut files = MemFiles::from_list(alloc, vec![in alloc; old]?).expect(&rt, "no clash");
+    files.stop_at(4);
+    assert!(&rt; tmp != head);
+    let stopped = replace(alloc, &mut files, &tmp, &head, b"new");
+    assert!(&rt; matches!(&stopped, Err(FileErr::Failed)));
+
+    let open = files.open_places(alloc).expect(&rt, "memory");
+    let texts = [head.as_str(), tmp.as_str()];
+    assert_eq!(&rt; open.len(), 2);
+    for (place, text) in open.iter().zip(&texts) {
+        assert_eq!(&rt; place.as_str(), *text);
+    }
+    leaves(&rt, alloc, &files, &[0], &[(head.as_str(), Some(b"old"))]);
+    leaves(&rt, alloc, &files, &[1], &[(head.as_str(), Some(b"new"))]);
+    Ok(())
+}
+
+#[test]
+fn image_of_a_torn_file(rt: HostRuntime) {
+    let alloc = rt.alloc();
+    let mut files = MemFiles::new(alloc);
+    put(&rt, alloc, &mut files, "/a", b"hello");
+    leaves(&rt, alloc, &files, &[], &[("/a", None)]);
+    leaves(&rt, alloc, &files, &[0], &[("/a", None)]);
+    leaves(&rt, alloc, &files, &[1], &[("/a", Some(b"hello"))]);
+    leaves(&rt, alloc, &files, &[2], &[("/a", Some(b"he"))]);
+    leaves(&rt, alloc, &files, &[3], &[("/a", Some(b"\0\0"))]);
+    leaves(&rt, alloc, &files, &[4], &[("/a", Some(b"hello"))]);
+}
+
+#[test]
+fn no_image_with_a_file_above_another(rt: HostRuntime) {
+    let alloc = rt.alloc();
+    let mut files = MemFiles::new(alloc);
+    put(&rt, alloc, &mut files, "/a", b"1");
+    files.barrier(alloc).expect(&rt, "barrier");
+    files
+        .remove(alloc, &place(&rt, alloc, "/a"))
+        .expect(&rt, "remove");
+    put(&rt, alloc, &mut files, "/a/b", b"2");
+    let none = files.image(alloc, &[0, 1]).expect(&rt, "memory");
+    assert!(&rt; none.is_none());
+    leaves(
+        &rt,
+        alloc,
+        &files,
+        &[0, 0],
+        &[("/a", Some(b"1")), ("/a/b", None)],
+    );
+    leaves(
+        &rt,
+        alloc,
+        &files,
+        &[2, 2],
+        &[("/a", None), ("/a/b", Some(b""))],
+    );
 }
 
 fn listed(rt: &impl Abort, alloc: Global, texts: &[&str]) -> Result<Vec<(Place, Vec<u8>)>, Fail> {

@@ -2,19 +2,11 @@ use Rattle.std.proofs.Common.{refl, rules}
 use Rattle.std.proofs.lemmas.Option.{slice_get_read}
 use Rattle.file_store.proofs.OneFile.{found_it}
 use Rattle.file_store.proofs.Writes.{drop_here}
-use Rattle.file_store.proofs.Moves.{moving_starts, moving_source, moving_left, moving_crash, moving_after}
+use Rattle.file_store.proofs.Moves.{moving_starts, moving_source, moved_along, moving_in_call, moving_after}
 use Rattle.file_store.proofs.replacing.move_all.Goals as goal
 
 pub loop-replacement-init : goal.loop-replacement-init
 loop-replacement-init g c = record { reached = λ told. moving_starts c.args.list.now (g.F.Files.drive c.args.files.now) (c.requires.staged told); no_fewer = search rules }
-
-pub returns-in_err-rename-clause-left : goal.returns-in_err-rename-clause-left
-returns-in_err-rename-clause-left g c = λ told.
-    let r = c.replacement-item.result in
-    let i = c.loop-replacement.replacement-index in
-    let here = drop_here c.args.list.now i r c.loop-replacement-test.true c.replacement-item.is in
-    let listed = slice_get_read c.args.list.now _ i r refl c.loop-replacement-test.true c.replacement-item.is in
-    moving_left c.args.list.now _ _ _ i r here listed (c.loop-replacement.invariant.reached told) (c.rename.ensures.steps told)
 
 pub returns-in_err-rename-clause-crash : goal.returns-in_err-rename-clause-crash
 returns-in_err-rename-clause-crash g c = λ told.
@@ -22,7 +14,7 @@ returns-in_err-rename-clause-crash g c = λ told.
     let i = c.loop-replacement.replacement-index in
     let here = drop_here c.args.list.now i r c.loop-replacement-test.true c.replacement-item.is in
     let listed = slice_get_read c.args.list.now _ i r refl c.loop-replacement-test.true c.replacement-item.is in
-    moving_crash c.args.list.now _ _ _ i r here listed (c.loop-replacement.invariant.reached told) (c.rename.ensures.steps told)
+    moved_along c.args.list.now (moving_in_call c.args.list.now _ _ _ i r here listed (c.loop-replacement.invariant.reached told) c.requires.apart (c.rename.ensures.steps told))
 
 pub loop-replacement-preserved : goal.loop-replacement-preserved
 loop-replacement-preserved g c =
@@ -40,3 +32,6 @@ loop-replacement-preserved g c =
       reached = λ told. moving_after c.args.list.now _ old.history new.history i r here listed (c.loop-replacement.invariant.reached told) c.requires.apart (c.rename.ensures.steps told) (moves told).0 (moves told).2;
       no_fewer = search rules;
     }
+
+pub returns-clause-crash : goal.returns-clause-crash
+returns-clause-crash g c = λ told. moved_along c.args.list.now (c.loop-replacement.invariant.reached told).run

@@ -1,14 +1,14 @@
 use Rattle.std.proofs.Common.{rules}
 use Rattle.std.proofs.lemmas.Result.{err_from_is_err_and}
-use Rattle.file_store.proofs.OldOrNew.{Between-joins, crash_joins}
-use Rattle.file_store.proofs.ManyFiles.{sync_left, sync_crash, are_ready, move_fails, all_ends}
+use Rattle.file_store.proofs.Course.{goes_syncing}
+use Rattle.file_store.proofs.ManyFiles.{are_ready, move_fails, all_ends, staged_goes, all_goes}
 use Rattle.file_store.proofs.replacing.replace_all.Goals as goal
 
-pub returns-in_err-barrier-clause-left : goal.returns-in_err-barrier-clause-left
-returns-in_err-barrier-clause-left g c = λ told. sync_left _ _ _ _ _ (c.barrier.ensures.steps told) (c.stage_all.ensures.left told)
+pub returns-in_err-stage_all-clause-crash : goal.returns-in_err-stage_all-clause-crash
+returns-in_err-stage_all-clause-crash g c = λ told. staged_goes c.args.list.now (c.stage_all.ensures.crash told)
 
 pub returns-in_err-barrier-clause-crash : goal.returns-in_err-barrier-clause-crash
-returns-in_err-barrier-clause-crash g c = λ told _. sync_crash _ _ _ _ _ (c.barrier.ensures.steps told) (c.stage_all.ensures.crash told)
+returns-in_err-barrier-clause-crash g c = λ told. staged_goes c.args.list.now (goes_syncing (c.stage_all.ensures.crash told) (c.barrier.ensures.steps told))
 
 pub move_all-requires-clause-staged : goal.move_all-requires-clause-staged
 move_all-requires-clause-staged g c = λ told.
@@ -22,13 +22,11 @@ returns-in_err-move_all-clause-ends g c =
     rw (p.1, p.2) (move_fails g.F.Files.tells c.args.list.now (drive c.args.files.now) (drive c.stage_all.new.files) (drive c.barrier.new.self)
     c.in_ok-stage_all.ensures.ends c.in_ok-barrier.ensures.ends (search rules) (drive c.move_all.new.files) c.in_err-move_all.field-0.0 c.in_err-move_all.ensures.ends)
 
-pub returns-in_err-move_all-clause-left : goal.returns-in_err-move_all-clause-left
-returns-in_err-move_all-clause-left g c = λ told.
-    Between-joins _ _ _ _ _ (sync_left _ _ _ _ _ (c.barrier.ensures.steps told) (c.stage_all.ensures.left told)) (c.move_all.ensures.left told)
-
 pub returns-in_err-move_all-clause-crash : goal.returns-in_err-move_all-clause-crash
-returns-in_err-move_all-clause-crash g c = λ told distinct.
-    crash_joins _ _ _ _ _ (sync_crash _ _ _ _ _ (c.barrier.ensures.steps told) (c.stage_all.ensures.crash told)) (c.move_all.ensures.crash told distinct)
+returns-in_err-move_all-clause-crash g c = λ told.
+    let staged = c.in_ok-stage_all.ensures.ends told in
+    all_goes c.args.list.now (g.F.Files.drive c.stage_all.new.files) staged.0 staged.1 (c.in_ok-barrier.ensures.ends told)
+    (goes_syncing (c.stage_all.ensures.crash told) (c.barrier.ensures.steps told)) (c.move_all.ensures.crash told)
 
 pub returns-clause-ends : goal.returns-clause-ends
 returns-clause-ends g c =
@@ -37,10 +35,9 @@ returns-clause-ends g c =
     c.in_ok-stage_all.ensures.ends c.in_ok-barrier.ensures.ends (search rules)
     (drive c.move_all.new.files) (drive c.barrier-2.new.self) c.barrier-2.result c.in_ok-move_all.ensures.ends (search rules) c.barrier-2.ensures.ends
 
-pub returns-clause-left : goal.returns-clause-left
-returns-clause-left g c = λ told. sync_left _ _ _ _ _ (c.barrier-2.ensures.steps told)
-    (Between-joins _ _ _ _ _ (sync_left _ _ _ _ _ (c.barrier.ensures.steps told) (c.stage_all.ensures.left told)) (c.move_all.ensures.left told))
-
 pub returns-clause-crash : goal.returns-clause-crash
-returns-clause-crash g c = λ told distinct. sync_crash _ _ _ _ _ (c.barrier-2.ensures.steps told)
-    (crash_joins _ _ _ _ _ (sync_crash _ _ _ _ _ (c.barrier.ensures.steps told) (c.stage_all.ensures.crash told)) (c.move_all.ensures.crash told distinct))
+returns-clause-crash g c = λ told.
+    let staged = c.in_ok-stage_all.ensures.ends told in
+    goes_syncing (all_goes c.args.list.now (g.F.Files.drive c.stage_all.new.files) staged.0 staged.1 (c.in_ok-barrier.ensures.ends told)
+    (goes_syncing (c.stage_all.ensures.crash told) (c.barrier.ensures.steps told)) (c.move_all.ensures.crash told))
+    (c.barrier-2.ensures.steps told)

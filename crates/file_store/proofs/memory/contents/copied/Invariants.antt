@@ -1,5 +1,5 @@
 use Rattle.std.proofs.Common.{◌≡◌, ◌++◌}
-use Rattle.file_store.specs.Stored.{plain}
+use Rattle.file_store.specs.Memory.Lists.{plain}
 use Rattle.file_store.proofs.memory.contents.copied.Given as goal
 
 abbrev pub invariant-loop-place : goal.invariant-loop-place

@@ -1,5 +1,5 @@
 use Rattle.std.proofs.lemmas.Result.{IfOk-weaker}
-use Rattle.file_store.specs.Stored.{IsListOf}
+use Rattle.file_store.specs.Memory.Lists.{IsListOf}
 use Rattle.file_store.proofs.Gathered.{IsListOf-same}
 use Rattle.file_store.proofs.Kept.{as_one, latest_of}
 use Rattle.file_store.proofs.memory.disk.MemDisk.to_list.Goals as goal
