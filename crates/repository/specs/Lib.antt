@@ -1,0 +1,5 @@
+pub mod Agree
+pub mod Held
+pub mod Layout
+pub mod Limits
+pub mod Unfinished

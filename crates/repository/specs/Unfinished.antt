@@ -1,0 +1,32 @@
+-- The places of unfinished writes, of which nothing is said.
+use Rattle.std.specs.Prelude.{◌≡◌, ◌⊎◌, Bool, true, false, ◌&&◌, ◌||◌, None, [], ◌∷◌, bytes_eq, codes}
+use Rattle.places.specs.Names.{Names}
+use Rattle.places.specs.Ground.{Ground, file_at}
+use Rattle.repository.specs.Layout.{in_tmp}
+
+-- Something below `tmp`.
+abbrev pub is_below_tmp : Names → Bool
+is_below_tmp [] = false
+is_below_tmp (dir ∷ []) = false
+is_below_tmp (dir ∷ name ∷ rest) = bytes_eq dir (codes "tmp")
+
+-- Below the `tmp` of any repository.
+unfoldable pub is_tmp : Names → Bool
+is_tmp [] = false
+is_tmp (name ∷ rest) = (bytes_eq name (codes ".dlrepo") && is_below_tmp rest) || is_tmp rest
+
+-- The place of a repository.
+unfoldable pub is_repo : Names → Bool
+is_repo [] = false
+is_repo (name ∷ []) = bytes_eq name (codes ".dlrepo")
+is_repo (name ∷ next ∷ rest) = is_repo (next ∷ rest)
+
+-- Outside the unfinished writes of a repository.
+abbrev pub IsOutside : Names → Names → Type 0
+IsOutside repo q = in_tmp repo q ≡ false
+
+-- The second ground is the first, but for files of unfinished writes that are gone.
+abbrev pub LessTmp : Names → Ground → Ground → Type 0
+LessTmp repo defined after =
+    (q : Names) → (file_at after q ≡ file_at defined q)
+    ⊎ ((in_tmp repo q ≡ true) × (file_at after q ≡ None))
