@@ -1,0 +1,9 @@
+pub mod Along
+pub mod Come
+pub mod Laws
+pub mod Folds
+pub mod Replaces
+pub mod Removes
+pub mod Reading
+pub mod Looks
+pub mod Stays
