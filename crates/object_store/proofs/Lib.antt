@@ -1,8 +1,7 @@
-pub mod After
 pub mod Found
+pub mod Ids
 pub mod Lists
 pub mod Looks
 pub mod Ours
-pub mod Paths
-pub mod Put
-pub mod Temporary
+pub mod PutActs
+pub mod Staged

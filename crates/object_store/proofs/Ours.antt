@@ -1,161 +1,144 @@
 -- Where objects are put: what stands at their places before and after.
-use Rattle.std.proofs.Common.{◌≡◌, ◌≢◌, inl, inr, ℕ, zero, suc, ◌+◌, Bool, true, false, cond, List, [], ◌∷◌, Option, Some, None, refl, sym, ap, ◌∙◌}
-use Rattle.std.specs.Prelude.{is_some, slice_get}
+use Rattle.std.proofs.Common.{◌≡◌, ◌≢◌, inl, inr, ℕ, ◌+◌, Bool, true, false, cond, ◌||◌, List, [], ◌∷◌, ◌++◌, fold, Option, Some, None, refl, sym, ap, ◌∙◌}
+use Rattle.std.specs.Prelude.{is_some}
 use Rattle.std.specs.List.{All}
-use Rattle.std.specs.FinMap.{insert, remove}
-use Rattle.std.proofs.lemmas.Bool.{cases_Bool}
+use Rattle.std.proofs.lemmas.Bool.{false≢true}
 use Rattle.std.proofs.lemmas.List.Elements.{All-head, All-tail}
+use Rattle.places.specs.Names.{Names}
+use Rattle.places.specs.Order.{place_eq, same_names}
 use Rattle.places.specs.Ground.{Ground, file_at, stands}
-use Rattle.places.proofs.Grounds.{cases_place, file_at-insert_same, file_at-insert_other, file_at-remove_other}
-use Rattle.file_store.specs.Replaced.{replaced, staged, installed, all_replaced, or_next, Between, IsNoTmp, IsNew}
-use Rattle.file_store.specs.declared.faults.Fault.{Fault}
+use Rattle.places.proofs.Grammar.{or_either}
+use Rattle.places.proofs.Grounds.{cases_place, same}
+use Rattle.file_store.specs.Course.{Round, with_file, changed}
+use Rattle.file_store.specs.Replaced.{or_next, IsNoTmp, round_of}
+use Rattle.faults.specs.declared.faults.Fault.{Fault}
 use Rattle.file_store.specs.declared.replacing.Replacement.{Replacement}
-use Rattle.git_objects.specs.Objects.{oid}
-use Rattle.object_store.specs.Layout.{tmp_place, in_tmp}
-use Rattle.object_store.specs.Held.{place_in, object_text, with_objects, LessTmp}
-use Rattle.object_store.specs.Puts.{fault_in, first_fault, missing, staging, IsObject}
+use Rattle.file_store.proofs.Rounds.{file_at-with_file, with_file_same, with_file_other, changed-as}
+use Rattle.repository.specs.Layout.{in_tmp}
+use Rattle.object_store.specs.Objects.{place_in, object_text, objects_round, with_objects}
+use Rattle.object_store.specs.Puts.{fault_in, first_fault, has_place, one_more, missing, staging}
 use Rattle.object_store.specs.declared.objects.NewObject.{NewObject}
 use Rattle.object_store.proofs.Found.{own_text}
-use Rattle.object_store.proofs.After.{NoTmp, NoPlace, staged_other, installed_tmp}
-use Rattle.object_store.proofs.Temporary.{outside_apart, inside_apart, staging_at}
+use Rattle.object_store.proofs.Lists.{round-staging}
+use Rattle.repository.proofs.Temporary.{outside_apart}
+use Rattle.object_store.proofs.Staged.{staging_at}
 
-module _ (repo : List (List ℕ)) (g : Ground) where
-  -- an object that isn't missing stands with its own text
-  pub held_text : (x : NewObject) → fault_in repo x (file_at g (place_in repo x)) ≡ None → stands g (place_in repo x) ≡ true → file_at g (place_in repo x) ≡ Some (object_text x)
-  held_text x e there = by (file_at g (place_in repo x)) refl
-    where
-      by : (o : Option (List ℕ)) → file_at g (place_in repo x) ≡ o → file_at g (place_in repo x) ≡ Some (object_text x)
-      by None is = absurd (cc (there, is))
-      by (Some bytes) is = is ∙ ap Some (own_text repo x bytes (ap (fault_in repo x) (sym is) ∙ e))
+or_parts : (a b : Option Fault) → or_next a b ≡ None → (a ≡ None) × (b ≡ None)
+or_parts None b e = (refl, e)
+or_parts (Some f) b e = absurd (cc e)
 
-  or_parts : (a b : Option Fault) → or_next a b ≡ None → (a ≡ None) × (b ≡ None)
-  or_parts None b e = (refl, e)
-  or_parts (Some f) b e = absurd (cc e)
+-- ---- one round of objects
 
-  module _ (q : List (List ℕ)) where
-    -- inserting what already stands changes nothing at q
-    abbrev Follows : List NewObject → Type 0
-    Follows objects =
-        (h k : Ground) → file_at h q ≡ file_at k q → (stands g q ≡ true → file_at h q ≡ file_at g q) → file_at (with_objects repo (missing repo objects g) h) q ≡ file_at (with_objects repo objects k) q
+module _ (repo : Names) where
+  objects-appended : (objects : List NewObject) (x : NewObject) (g : Ground) → with_objects repo (objects ++ x ∷ []) g ≡ with_objects repo objects (with_file (place_in repo x) (Some (object_text x)) g)
+  objects-appended [] x g = refl
+  objects-appended (y ∷ objects) x g = ap (with_file (place_in repo y) (Some (object_text y))) (objects-appended objects x g)
 
-    one_more : (x : NewObject) (objects : List NewObject) → fault_in repo x (file_at g (place_in repo x)) ≡ None → Follows objects → Follows (x ∷ objects)
-    one_more x objects e rest h k same kept = by (stands g (place_in repo x)) refl
+  -- the first one that goes to a place counts there
+  decided : (objects : List NewObject) (g h : Ground) (q : Names) → has_place repo objects q ≡ true → file_at (with_objects repo objects g) q ≡ file_at (with_objects repo objects h) q
+  decided [] g h q has = absurd (false≢true has)
+  decided (x ∷ objects) g h q has =
+      file_at-with_file (place_in repo x) (Some (object_text x)) (with_objects repo objects g) q
+      ∙ elim (or_either (place_eq (place_in repo x) q) (has_place repo objects q) has) [
+        | inl here ↦
+            let is : place_eq q (place_in repo x) ≡ true = same q (place_in repo x) (sym ((same_names (place_in repo x) q).0 here)) in
+            (λ i. cond (is i) (Some (object_text x)) (file_at (with_objects repo objects g) q)) ∙ sym (λ i. cond (is i) (Some (object_text x)) (file_at (with_objects repo objects h) q))
+        | inr there ↦ ap (λ o. cond (place_eq q (place_in repo x)) (Some (object_text x)) o) (decided objects g h q there)
+      ]
+      ∙ sym (file_at-with_file (place_in repo x) (Some (object_text x)) (with_objects repo objects h) q)
+
+  module _ (g : Ground) where
+    -- an object that isn't missing stands with its own text
+    pub held_text : (x : NewObject) → fault_in repo x (file_at g (place_in repo x)) ≡ None → stands g (place_in repo x) ≡ true → file_at g (place_in repo x) ≡ Some (object_text x)
+    held_text x e there = by (file_at g (place_in repo x)) refl
       where
-        by : (t : Bool) → stands g (place_in repo x) ≡ t → file_at (with_objects repo (missing repo (x ∷ objects) g) h) q ≡ file_at (with_objects repo (x ∷ objects) k) q
-        by true there =
-            ap (λ t. file_at (with_objects repo (cond t (missing repo objects g) (x ∷ missing repo objects g)) h) q) there
-            ∙ rest h (insert k (place_in repo x) (object_text x)) (elim (cases_place q (place_in repo x)) [
-              | inl is ↦ kept (ap (stands g) is ∙ there) ∙ ap (file_at g) is ∙ held_text x e there ∙ sym (file_at-insert_same k (place_in repo x) (object_text x) q is)
-              | inr other ↦ same ∙ sym (file_at-insert_other k (place_in repo x) (object_text x) q other)
-            ]) kept
-        by false gone =
-            ap (λ t. file_at (with_objects repo (cond t (missing repo objects g) (x ∷ missing repo objects g)) h) q) gone
-            ∙ rest (insert h (place_in repo x) (object_text x)) (insert k (place_in repo x) (object_text x)) (elim (cases_place q (place_in repo x)) [
-              | inl is ↦ file_at-insert_same h (place_in repo x) (object_text x) q is ∙ sym (file_at-insert_same k (place_in repo x) (object_text x) q is)
-              | inr other ↦ file_at-insert_other h (place_in repo x) (object_text x) q other ∙ same ∙ sym (file_at-insert_other k (place_in repo x) (object_text x) q other)
-            ]) (λ stood. file_at-insert_other h (place_in repo x) (object_text x) q (λ is. cc (sym stood ∙ ap (stands g) is ∙ gone)) ∙ kept stood)
+        by : (o : Option (List ℕ)) → file_at g (place_in repo x) ≡ o → file_at g (place_in repo x) ≡ Some (object_text x)
+        by None is = absurd (cc (there, is))
+        by (Some bytes) is = is ∙ ap Some (own_text repo x bytes (ap (fault_in repo x) (sym is) ∙ e))
 
-    pub only_missing : (objects : List NewObject) → first_fault repo objects g ≡ None → Follows objects
-    only_missing [] e = λ h k same kept. same
-    only_missing (x ∷ objects) e =
-        let parts = or_parts (fault_in repo x (file_at g (place_in repo x))) (first_fault repo objects g) e in
-        one_more x objects parts.0 (only_missing objects parts.1)
+    -- what stands, stays
+    pub held_stays : (objects : List NewObject) → first_fault repo objects g ≡ None → (q : Names) → stands g q ≡ true → file_at (with_objects repo objects g) q ≡ file_at g q
+    held_stays [] none q there = refl
+    held_stays (x ∷ objects) none q there =
+        let parts = or_parts (fault_in repo x (file_at g (place_in repo x))) (first_fault repo objects g) none in
+        elim (cases_place q (place_in repo x)) [
+          | inl is ↦ with_file_same (place_in repo x) (Some (object_text x)) (with_objects repo objects g) q is ∙ sym (held_text x parts.0 (sym (ap (stands g) is) ∙ there)) ∙ sym (ap (file_at g) is)
+          | inr other ↦ with_file_other (place_in repo x) (Some (object_text x)) (with_objects repo objects g) q other ∙ held_stays objects parts.1 q there
+        ]
 
-module _ (repo q : List (List ℕ)) where
-  -- ---- outside the unfinished writes
+    abbrev more_missing : List NewObject → List NewObject → List NewObject
+    more_missing some objects = fold (λ some object. one_more repo (stands g (place_in repo object)) some object) some objects
 
-  outside_tmps : in_tmp repo q ≡ false → (i : ℕ) (objects : List NewObject) → NoTmp (staging repo i objects) q
-  outside_tmps outside i [] = tt
-  outside_tmps outside i (x ∷ objects) = (outside_apart repo q i outside, outside_tmps outside (i + 1) objects)
+    module _ (x : NewObject) (objects some : List NewObject) (none : first_fault repo (x ∷ objects) g ≡ None) (q : Names) where
+      abbrev rest : Ground
+      rest = with_objects repo objects g
 
-  one_file : (tmp place : List (List ℕ)) (bytes : List ℕ) (h k : Ground) → q ≢ tmp → file_at h q ≡ file_at k q → file_at (replaced tmp place bytes h) q ≡ file_at (insert k place bytes) q
-  one_file tmp place bytes h k apart same = elim (cases_place q place) [
-    | inl is ↦ file_at-insert_same (remove h tmp) place bytes q is ∙ sym (file_at-insert_same k place bytes q is)
-    | inr other ↦ file_at-insert_other (remove h tmp) place bytes q other ∙ file_at-remove_other h tmp q apart ∙ same ∙ sym (file_at-insert_other k place bytes q other)
-  ]
+      abbrev all : Ground
+      all = with_objects repo (x ∷ objects) g
 
-  -- what is moved there is what the objects are
-  installed_objects : in_tmp repo q ≡ false → (i : ℕ) (objects : List NewObject) (h k : Ground) → file_at h q ≡ file_at k q → file_at (installed (staging repo i objects) h) q ≡ file_at (with_objects repo objects k) q
-  installed_objects outside i [] h k same = same
-  installed_objects outside i (x ∷ objects) h k same = installed_objects outside (i + 1) objects (replaced (tmp_place repo i) (place_in repo x) (object_text x) h) (insert k (place_in repo x) (object_text x))
-      (one_file (tmp_place repo i) (place_in repo x) (object_text x) h k (outside_apart repo q i outside) same)
+      elsewhere : q ≢ place_in repo x → file_at rest q ≡ file_at all q
+      elsewhere apart = sym (with_file_other (place_in repo x) (Some (object_text x)) rest q apart)
 
-  -- ---- among them
+      one_step : (t : Bool) → stands g (place_in repo x) ≡ t → (b : Bool) → has_place repo some (place_in repo x) ≡ b
+          → file_at (with_objects repo (one_more repo t some x) rest) q ≡ file_at (with_objects repo some all) q
+      one_step true there b has = changed-as (objects_round repo some) rest all q (elim (cases_place q (place_in repo x)) [
+        | inl is ↦ held_stays objects (or_parts (fault_in repo x (file_at g (place_in repo x))) (first_fault repo objects g) none).1 q (ap (stands g) is ∙ there) ∙ sym (held_stays (x ∷ objects) none q (ap (stands g) is ∙ there))
+        | inr other ↦ elsewhere other
+      ])
+      one_step false gone true has =
+          ap (λ b. file_at (with_objects repo (cond b some (some ++ x ∷ [])) rest) q) has
+          ∙ elim (cases_place q (place_in repo x)) [
+            | inl is ↦ decided some rest all q (ap (has_place repo some) is ∙ has)
+            | inr other ↦ changed-as (objects_round repo some) rest all q (elsewhere other)
+          ]
+      one_step false gone false has =
+          ap (λ b. file_at (with_objects repo (cond b some (some ++ x ∷ [])) rest) q) has
+          ∙ ap (λ (h : Ground). file_at h q) (objects-appended some x rest)
 
-  inside_places : in_tmp repo q ≡ true → (i : ℕ) (objects : List NewObject) → NoPlace (staging repo i objects) q
-  inside_places inside i [] = tt
-  inside_places inside i (x ∷ objects) = (inside_apart repo q (oid x.kind x.body) inside, inside_places inside (i + 1) objects)
+    -- the others need not be put
+    only_missing : (objects some : List NewObject) (q : Names) → first_fault repo objects g ≡ None
+        → file_at (with_objects repo (more_missing some objects) g) q ≡ file_at (with_objects repo some (with_objects repo objects g)) q
+    only_missing [] some q none = refl
+    only_missing (x ∷ objects) some q none =
+        only_missing objects (one_more repo (stands g (place_in repo x)) some x) q (or_parts (fault_in repo x (file_at g (place_in repo x))) (first_fault repo objects g) none).1
+        ∙ one_step x objects some none q (stands g (place_in repo x)) refl (has_place repo some (place_in repo x)) refl
 
-  pub with_objects-inside : in_tmp repo q ≡ true → (objects : List NewObject) (g : Ground) → file_at (with_objects repo objects g) q ≡ file_at g q
-  with_objects-inside inside [] g = refl
-  with_objects-inside inside (x ∷ objects) g =
-      with_objects-inside inside objects (insert g (place_in repo x) (object_text x)) ∙ file_at-insert_other g (place_in repo x) (object_text x) q (inside_apart repo q (oid x.kind x.body) inside)
+    pub missing_enough : (objects : List NewObject) (q : Names) → first_fault repo objects g ≡ None → file_at (with_objects repo (missing repo objects g) g) q ≡ file_at (with_objects repo objects g) q
+    missing_enough objects q none = only_missing objects [] q none
 
--- what the replacement of the missing files leaves
-pub put_leaves : (repo : List (List ℕ)) (objects : List NewObject) (g : Ground) → first_fault repo objects g ≡ None → LessTmp repo (with_objects repo objects g) (all_replaced (staging repo 0 (missing repo objects g)) g)
-put_leaves repo objects g e q = elim (cases_Bool (in_tmp repo q)) [
-  | inl inside ↦ elim (installed_tmp list (staged list g) q (inside_places repo q inside 0 (missing repo objects g))) [
-    | inl gone ↦ inr (inside, gone)
-    | inr kept ↦ inl (kept.1 ∙ staged_other list g q kept.0 ∙ sym (with_objects-inside repo q inside objects g))
-  ]
-  | inr outside ↦ inl (
-      installed_objects repo q outside 0 (missing repo objects g) (staged list g) g (staged_other list g q (outside_tmps repo q outside 0 (missing repo objects g)))
-      ∙ only_missing repo g q objects e g g refl (λ stood. refl)
-      )
-]
-  where
-    list : List Replacement
-    list = staging repo 0 (missing repo objects g)
+    -- ---- their files
 
--- where nothing is missing, nothing has to be put
-pub none_leaves : (repo : List (List ℕ)) (objects : List NewObject) (g : Ground) → first_fault repo objects g ≡ None → missing repo objects g ≡ [] → LessTmp repo (with_objects repo objects g) g
-none_leaves repo objects g e none q =
-    inl (ap (λ (z : List NewObject). file_at (with_objects repo z g) q) (sym none) ∙ only_missing repo g q objects e g g refl (λ stood. refl))
+    abbrev files : List NewObject → List Replacement
+    files objects = staging repo 0 (missing repo objects g)
 
--- a missing object is one of the objects
-pub missing_at : (repo : List (List ℕ)) (g : Ground) (objects : List NewObject) (i : ℕ) (x : NewObject) → slice_get (missing repo objects g) i ≡ Some x → (j : ℕ) × (slice_get objects j ≡ Some x)
-missing_at repo g [] i x e = absurd (cc e)
-missing_at repo g (y ∷ objects) i x e = by (stands g (place_in repo y)) i (λ n f. missing_at repo g objects n x f) e
-  where
-    by : (t : Bool) (n : ℕ) → ((m : ℕ) → slice_get (missing repo objects g) m ≡ Some x → (j : ℕ) × (slice_get objects j ≡ Some x)) → slice_get (cond t (missing repo objects g) (y ∷ missing repo objects g)) n ≡ Some x
-        → (j : ℕ) × (slice_get (y ∷ objects) j ≡ Some x)
-    by true n rest f = let found = rest n f in (suc found.0, found.1)
-    by false zero rest f = (zero, f)
-    by false (suc n) rest f = let found = rest n f in (suc found.0, found.1)
+    pub outside_firm : (some : List NewObject) (q : Names) → in_tmp repo q ≡ false → IsNoTmp (staging repo 0 some) q
+    outside_firm some q outside i r at is =
+        let found = staging_at repo 0 some i r at in
+        outside_apart repo q (0 + i) outside (is ∙ ap (λ (z : Replacement). z.tmp) found.2)
 
--- the places outside the unfinished writes, whatever came of the replacement
-pub put_between : (repo : List (List ℕ)) (objects : List NewObject) (g a b : Ground) → Between (IsNoTmp (staging repo 0 (missing repo objects g))) (IsNew (staging repo 0 (missing repo objects g))) a b
-    → Between (λ q. in_tmp repo q ≡ false) (IsObject repo objects) a b
-put_between repo objects g a b between = record {
-  places = λ q outside. elim (between.places q (λ i r at is.
-      let found = staging_at repo 0 (missing repo objects g) i r at in
-      outside_apart repo q (0 + i) outside (is ∙ ap (λ (z : Replacement). z.tmp) found.2))) [
-        | inl kept ↦ inl kept
-        | inr new ↦ inr (
-            let found = staging_at repo 0 (missing repo objects g) new.i new.r new.listed in
-            let listed = missing_at repo g objects new.i found.0 found.1 in
-            record {
-              i = listed.0;
-              object = found.0;
-              listed = listed.1;
-              place = new.place ∙ ap (λ (z : Replacement). z.place) found.2;
-              bytes = new.bytes ∙ ap (λ (z : Replacement). Some z.bytes) found.2;
-            }
-            )
-      ];
-}
+    pub round_enough : (objects : List NewObject) (q : Names) → first_fault repo objects g ≡ None → file_at (changed (round_of (files objects)) g) q ≡ file_at (with_objects repo objects g) q
+    round_enough objects q none = ap (λ (round : Round). file_at (changed round g) q) (round-staging repo 0 (missing repo objects g)) ∙ missing_enough objects q none
 
--- ---- an empty ground, for the layers above
+-- ---- for the layers above
 
--- where nothing stands at any object's place, nothing is refused and all are missing
-pub none_held : (repo : List (List ℕ)) (objects : List NewObject) (g : Ground) → All (λ x. file_at g (place_in repo x) ≡ None) objects → (first_fault repo objects g ≡ None) × (missing repo objects g ≡ objects)
-none_held repo [] g free = (refl, refl)
+-- where nothing stands at any object's place, nothing is refused
+pub none_held : (repo : Names) (objects : List NewObject) (g : Ground) → All (λ x. file_at g (place_in repo x) ≡ None) objects → first_fault repo objects g ≡ None
+none_held repo [] g free = refl
 none_held repo (x ∷ objects) g free =
     let gone = All-head (λ y. file_at g (place_in repo y) ≡ None) x objects free in
-    let rest = none_held repo objects g (All-tail (λ y. file_at g (place_in repo y) ≡ None) x objects free) in (
-      ap (λ o. or_next (fault_in repo x o) (first_fault repo objects g)) gone ∙ rest.0,
-      fresh (file_at g (place_in repo x)) refl gone ∙ ap (λ (z : List NewObject). x ∷ z) rest.1,
-    )
+    ap (λ o. or_next (fault_in repo x o) (first_fault repo objects g)) gone ∙ none_held repo objects g (All-tail (λ y. file_at g (place_in repo y) ≡ None) x objects free)
+
+missing_after : (repo : Names) (g : Ground) (objects some : List NewObject) (x : NewObject) → (more : List NewObject) × (more_missing repo g (x ∷ some) objects ≡ x ∷ more)
+missing_after repo g [] some x = (some, refl)
+missing_after repo g (y ∷ objects) some x = by (stands g (place_in repo y) || has_place repo (x ∷ some) (place_in repo y)) (missing_after repo g objects some x) (missing_after repo g objects (some ++ y ∷ []) x)
   where
-    fresh : (o : Option (List ℕ)) → file_at g (place_in repo x) ≡ o → o ≡ None → missing repo (x ∷ objects) g ≡ x ∷ missing repo objects g
-    fresh o is none = ap (λ (z : Option (List ℕ)). cond (is_some z) (missing repo objects g) (x ∷ missing repo objects g)) (is ∙ none)
+    by : (b : Bool) → (more : List NewObject) × (more_missing repo g (x ∷ some) objects ≡ x ∷ more) → (more : List NewObject) × (more_missing repo g (x ∷ (some ++ y ∷ [])) objects ≡ x ∷ more)
+        → (more : List NewObject) × (more_missing repo g (cond b (x ∷ some) (x ∷ (some ++ y ∷ []))) objects ≡ x ∷ more)
+    by true there gone = there
+    by false there gone = gone
+
+-- and the first object is the first that is missing
+pub first_missing : (repo : Names) (x : NewObject) (objects : List NewObject) (g : Ground) → file_at g (place_in repo x) ≡ None → (more : List NewObject) × (missing repo (x ∷ objects) g ≡ x ∷ more)
+first_missing repo x objects g gone =
+    let found = missing_after repo g objects [] x in
+    (found.0, ap (λ (o : Option (List ℕ)). more_missing repo g (cond (is_some o || false) [] (x ∷ [])) objects) gone ∙ found.1)

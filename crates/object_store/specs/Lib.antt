@@ -1,4 +1,4 @@
-pub mod Held
-pub mod Layout
 pub mod Looks
+pub mod Objects
+pub mod PutActs
 pub mod Puts

@@ -1,18 +1,21 @@
 // What stands where objects are to be put.
-ghost use Rattle.std.specs.Prelude.{◌≡◌, ◌≤◌, ◌&&◌, List, ℕ, length, bytes_eq, IfOk, IfSome};
+ghost use Rattle.std.specs.Prelude.{◌≡◌, ◌≤◌, ◌&&◌, List, ℕ, length, bytes_eq, IfOk, OnOk};
 ghost use Rattle.sha1.specs.Sha1.{sha1};
 ghost use Rattle.git_objects.specs.Objects.{oid, is_object_text};
-ghost use Rattle.places.specs.Names.{text_of};
-ghost use Rattle.object_store.specs.Held.{place_in};
-ghost use Rattle.object_store.specs.Looks.{IsFound, LookEnds, MissingEnds};
-ghost use Rattle.object_store.specs.Puts.{found_fault, object_limit};
+ghost use Rattle.places.specs.Names.{Names, text_of};
+ghost use Rattle.object_store.specs.Objects.{place_in};
+ghost use Rattle.object_store.specs.Looks.{HaveIds, LookReads, MayAdd, MissingReads, AreFiles};
+ghost use Rattle.object_store.specs.Puts.{found_fault};
+ghost use Rattle.repository.specs.Limits.{object_limit};
 
-use crate::layout::{object_place, tmp_place};
 use crate::objects::NewObject;
-use file_store::{Bytes, Fault, Files, Place, Replacement, Trouble};
+use faults::{Fault, Trouble};
+use file_store::{Bytes, Files, Place, Replacement};
 use git_objects::read_object;
+use repository::{object_place, tmp_place};
 use sha1::Sha1;
 use std::alloc::{AllocError, Global};
+use std::collections::BTreeSet;
 
 fn has_id(bytes: &[u8], object: &NewObject) -> bool
     ensures { result ≡ bytes_eq (sha1 bytes.now) (oid object.now.kind object.now.body) }
@@ -35,9 +38,8 @@ fn refusal(
     object: &NewObject,
     found: &[u8],
 ) -> Result<Option<Fault>, AllocError>
-    ensures fault { (repo : List (List ℕ)) → place.now ≡ place_in repo object.now → IfOk result
+    ensures { (repo : Names) → place.now ≡ place_in repo object.now → IfOk result
         (λ fault. fault ≡ found_fault repo object.now found.now) }
-    ensures kind { IfOk result (λ fault. IfSome fault IsFound) }
 {
     let text = object.text(alloc)?;
     if found == text.as_slice() {
@@ -51,26 +53,33 @@ fn refusal(
     Ok(Some(Fault::Damaged { place }))
 }
 
-// Looks at an object's place. Where nothing stands, its file is added to the list.
+// Looks at an object's place. Where nothing stands, its file is added to the list and its id to the list's.
 fn look_at<F: Files>(
     alloc: Global,
     files: &mut F,
     repo: &Place,
     object: &NewObject,
     list: &mut Vec<Replacement>,
+    ids: &mut BTreeSet<[u8; 20]>,
 ) -> Result<(), Trouble>
-    requires { length (text_of repo.now) ≤ object_limit }
-    ensures later { (F.drive files.old).faults ≤ (F.drive files.new).faults }
-    ensures ends { LookEnds F.tells repo.now object.now list.old.items list.new.items
+    requires fits { length (text_of repo.now) ≤ object_limit }
+    requires known { HaveIds repo.now list.old.items ids.old }
+    ensures reads { LookReads F.tells repo.now object.now list.old.items list.new.items
         (F.drive files.old) (F.drive files.new) result }
+    ensures adds { MayAdd repo.now object.now list.old.items list.new.items }
+    ensures known { OnOk result (HaveIds repo.now list.new.items ids.new) }
 {
-    let place = object_place(alloc, repo, &object.id())?;
+    let id = object.id();
+    let place = object_place(alloc, repo, &id)?;
     match files.read(alloc, &place)? {
         Some(found) => match refusal(alloc, &place, object, found.as_slice())? {
             None => Ok(()),
             Some(fault) => Err(Trouble::Refused(fault)),
         },
         None => {
+            if !ids.insert(id.0)? {
+                return Ok(());
+            }
             let tmp = tmp_place(alloc, repo, list.len())?;
             let bytes = Bytes::new(object.text(alloc)?);
             list.push(Replacement { tmp, place, bytes })?;
@@ -87,12 +96,13 @@ pub(crate) fn missing<F: Files>(
     objects: &[NewObject],
 ) -> Result<Vec<Replacement>, Trouble>
     requires { length (text_of repo.now) ≤ object_limit }
-    ensures later { (F.drive files.old).faults ≤ (F.drive files.new).faults }
-    ensures ends { MissingEnds F.tells repo.now objects.now (F.drive files.old) (F.drive files.new) result }
+    ensures reads { MissingReads F.tells repo.now objects.now (F.drive files.old) (F.drive files.new) result }
+    ensures files { IfOk result (λ list. AreFiles repo.now list.items) }
 {
     let mut list = Vec::new(alloc);
+    let mut ids = BTreeSet::new(alloc);
     for object in objects {
-        look_at(alloc, files, repo, object, &mut list)?;
+        look_at(alloc, files, repo, object, &mut list, &mut ids)?;
     }
     Ok(list)
 }

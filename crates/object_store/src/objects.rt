@@ -14,7 +14,7 @@ pub struct NewObject {
 
 impl NewObject {
     ghost use Rattle.git_objects.specs.Objects.{oid};
-    ghost use Rattle.object_store.specs.Held.{object_text as text_of_object};
+    ghost use Rattle.object_store.specs.Objects.{object_text as text_of_object};
 
     pub fn id(&self) -> Id
         ensures { result.0 ≡ oid self.now.kind self.now.body }

@@ -2,42 +2,17 @@
 //
 // Every place is looked at before anything is written; then what is missing goes by temporary places, all of it at the
 // price of two barriers. An object's file is never written in place, so a reader sees none of it or all.
-ghost use Rattle.std.specs.Prelude.{◌≡◌, ◌≤◌, IsTrue, false, length, string_bytes, IfOk};
-ghost use Rattle.places.specs.Names.{text_of};
-ghost use Rattle.file_store.specs.Ends.{present};
-ghost use Rattle.file_store.specs.Replaced.{Between};
-ghost use Rattle.file_store.specs.declared.faults.Fault.TheVariants.{TooLarge};
-ghost use Rattle.object_store.specs.Layout.{in_tmp};
-ghost use Rattle.object_store.specs.Puts.{PutEnds, IsObject};
+ghost use Rattle.std.specs.Prelude.{IsTrue};
+ghost use Rattle.repository.specs.Unfinished.{is_repo};
+ghost use Rattle.acts.specs.Ends.{ActsQuietly};
+ghost use Rattle.object_store.specs.PutActs.{MayPut, puts_objects};
 
 use crate::looking::missing;
 use crate::objects::NewObject;
-use file_store::{Fault, Files, Place, Text, Trouble, replace_all};
-use std::alloc::{AllocError, Global};
-
-/// The longest text of a repository's place in which anything is written, in bytes.
-pub const REPO_LIMIT: usize = 3584;
-
-/// The longest one below which an object has a place.
-const OBJECT_LIMIT: usize = 4046;
-
-/// The refusal of a repository whose place has this text, too long to write in.
-pub fn too_large(text: String) -> Fault
-    ensures { result ≡ TooLarge (string_bytes text) (length (string_bytes text)) }
-{
-    let size = text.len() as u64;
-    Fault::TooLarge {
-        path: Text::new(text),
-        size,
-    }
-}
-
-// The same, of a place.
-fn repo_too_large(alloc: Global, repo: &Place) -> Result<Fault, AllocError>
-    ensures { IfOk result (λ fault. fault ≡ TooLarge (text_of repo.now) (length (text_of repo.now))) }
-{
-    Ok(too_large(String::from_str(alloc, repo.as_str())?))
-}
+use faults::Trouble;
+use file_store::{Files, Place, replace_all};
+use repository::{OBJECT_LIMIT, REPO_LIMIT, repo_too_large};
+use std::alloc::Global;
 
 /// Puts the objects that aren't held.
 ///
@@ -48,13 +23,8 @@ pub fn put_all<F: Files>(
     repo: &Place,
     objects: &[NewObject],
 ) -> Result<(), Trouble>
-    ensures later { (F.drive files.old).faults ≤ (F.drive files.new).faults }
-    ensures ends { PutEnds F.tells repo.now objects.now (F.drive files.old) (F.drive files.new) result }
-
-    // Whatever the answer, each place outside the unfinished writes has what it had, or is one of the objects.
-    ensures left { IsTrue F.tells → Between (λ q. in_tmp repo.now q ≡ false)
-        (IsObject repo.now objects.now) (present (F.drive files.old))
-        (present (F.drive files.new)) }
+    ensures { IsTrue (is_repo repo.now) → ActsQuietly (λ fault. MayPut F.tells repo.now objects.now fault) F.tells
+        (puts_objects repo.now objects.now) (F.drive files.old) (F.drive files.new) result }
 {
     if objects.is_empty() {
         return Ok(());
