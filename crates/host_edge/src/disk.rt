@@ -1,8 +1,9 @@
 // The files of the host.
 //
-// A rename is kept only with its directory, so a barrier syncs every directory in which a name changed, beside every
-// file that was written. Directories aren't files: they are made where a file needs them, and removed where a removal
-// leaves them empty.
+// A name is kept only with its directory, so a barrier syncs every directory in which a name
+// changed, beside every file that was written. Directories aren't files: they are made where a file
+// needs them, and removed where a removal leaves them empty. No call goes through a link at the
+// place itself: what stands there is looked at just before.
 ghost use Rattle.std.specs.Prelude.{◌≡◌, ◌≤◌};
 ghost use Rattle.host_edge.specs.Silent.{IsRefusal};
 
@@ -12,9 +13,10 @@ use crate::paths::{fill_from, kind_of, read_whole, size_of};
 use file_store::{FileErr, Files, Item, Kind, Place};
 use std::alloc::Global;
 use std::fs::{self, OpenOptions};
-use std::io::{self, ErrorKind, Write};
+use std::io::{self, Error, ErrorKind, Write};
 
-/// The files of the host, from its root on. A symbolic link is Other, a directory without entries Absent.
+/// The files of the host, from its root on. A symbolic link is Other, a directory without entries
+/// Absent.
 #[derive(Drop)]
 pub struct HostFiles<R: std::rt::Files + AllocGlobal + Clone + Drop> {
     rt: R,
@@ -31,36 +33,37 @@ impl<R: std::rt::Files + AllocGlobal + Clone + Drop> HostFiles<R> {
         }
     }
 
-    // Makes the directories that a file at the place needs, and notes what a barrier has to sync.
-    fn prepare(&mut self, alloc: Global, place: &Place) -> io::Result<()>
-        ensures { self.new.faults ≡ self.old.faults }
-    {
-        self.dirty.make_directories(&self.rt, alloc, place.as_str())
-    }
-
     fn put(&mut self, alloc: Global, place: &Place, bytes: &[u8], add: bool) -> io::Result<()>
         ensures { self.new.faults ≡ self.old.faults }
     {
-        self.prepare(alloc, place)?;
-        self.dirty.note_file(alloc, place.as_str())?;
-        self.dirty.note_name(alloc, place.as_str())?;
+        let path = place.as_str();
+        let stands = self.dirty.make_room(&self.rt, path)?;
+        self.dirty.reach_above(&self.rt, alloc, path)?;
+        self.dirty.note_file(alloc, path)?;
+        self.dirty.note_name(alloc, path)?;
         let mut options = OpenOptions::new();
-        options.create(true);
+        // A link that another hand makes at this moment is refused, and not followed.
+        options.create_new(!stands);
         if add {
             options.append(true);
         } else {
             options.write(true).truncate(true);
         }
-        let mut file = options.open(&self.rt, place.as_str())?;
+        let mut file = options.open(&self.rt, path)?;
         file.write_all(bytes)
     }
 
     fn move_file(&mut self, alloc: Global, from: &Place, to: &Place) -> io::Result<()>
         ensures { self.new.faults ≡ self.old.faults }
     {
-        self.prepare(alloc, to)?;
+        if kind_of(&self.rt, from.as_str())? != Kind::File {
+            return Err(Error::from(ErrorKind::NotFound));
+        }
+        self.dirty.make_room(&self.rt, to.as_str())?;
+        self.dirty.reach_above(&self.rt, alloc, to.as_str())?;
         self.dirty.note_name(alloc, from.as_str())?;
         self.dirty.note_name(alloc, to.as_str())?;
+        self.dirty.sync_file(&self.rt, from.as_str())?;
         fs::rename(&self.rt, from.as_str(), to.as_str())
     }
 
@@ -72,7 +75,8 @@ impl<R: std::rt::Files + AllocGlobal + Clone + Drop> HostFiles<R> {
         }
         self.dirty.note_name(alloc, place.as_str())?;
         fs::remove_file(&self.rt, place.as_str())?;
-        self.dirty.remove_emptied(&self.rt, alloc, place.as_str())?;
+        self.dirty.forget_file(place.as_str());
+        self.dirty.remove_emptied(&self.rt, alloc, place.as_str());
         Ok(true)
     }
 }

@@ -1,4 +1,5 @@
-//! The host's files and outputs: the trusted edge. Each error is counted as a fault, and nothing is told of contents.
+//! The host's files and outputs: the trusted edge. Each error is counted as a fault, and nothing is
+//! told of contents.
 #![tactic(auto)]
 
 mod dirty;

@@ -3,7 +3,8 @@ ghost use Rattle.std.specs.Prelude.{◌≡◌, IfOk, IsTrue};
 ghost use Rattle.std.specs.List.{list_all};
 ghost use Rattle.std.specs.BTreeMap.{IsOrdered};
 ghost use Rattle.std.specs.String.{string_cmp};
-ghost use Rattle.file_store.specs.Kinds.{AreListed, is_item_name as is_item_name_of, names_in};
+ghost use Rattle.file_store.specs.Kinds.{AreListed, AreThere};
+ghost use Rattle.file_store.specs.Kinds.{is_item_name as is_item_name_of, names_in};
 ghost use Rattle.file_store.specs.Named.{as_items};
 
 use crate::paths::kind_of;
@@ -16,13 +17,17 @@ use std::io::{self, Error, ErrorKind};
 /// The most names that a listing gives.
 const MOST_NAMES: usize = 1_000_000;
 
-// What stands under each name.
+// What stands under each name, nothing where no directory is. A name that is gone meanwhile is left
+// out.
 fn kinds_below<R: std::rt::Files + AllocGlobal + Clone + Drop>(
     rt: &R,
     alloc: Global,
     path: &str,
 ) -> io::Result<BTreeMap<String, Kind>> {
     let mut kinds = BTreeMap::new(alloc);
+    if kind_of(rt, path)? != Kind::Dir {
+        return Ok(kinds);
+    }
     for entry in fs::read_dir(rt, path)? {
         let entry = entry?;
         let name = String::from_str(alloc, entry.file_name())?;
@@ -51,15 +56,21 @@ pub(crate) fn items_below<R: std::rt::Files + AllocGlobal + Clone + Drop>(
     Ok(items)
 }
 
-// The names of a map as items. A name that can't stand in a listing is an error.
+// The names of a map as items. A name that can't stand in a listing, or where nothing stands, is an
+// error.
 fn items_of(alloc: Global, kinds: BTreeMap<String, Kind>) -> io::Result<Vec<Item>>
     ensures items { IfOk result (λ items. items.items ≡ as_items kinds.entries) }
-    ensures names { IfOk result (λ items. IsTrue (list_all is_item_name_of (names_in items.items))) }
+    ensures names { IfOk result (λ items. IsTrue (list_all is_item_name_of
+        (names_in items.items))) }
+    ensures there { IfOk result (λ items. AreThere items.items) }
     ensures ordered { IfOk result (λ _. IsOrdered string_cmp kinds) }
 {
     let mut items = Vec::new(alloc);
     for (name, kind) in kinds {
         if !is_item_name(name.as_str()) {
+            return Err(Error::from(ErrorKind::InvalidData));
+        }
+        if kind == Kind::Absent {
             return Err(Error::from(ErrorKind::InvalidData));
         }
         items.push(Item {

@@ -31,14 +31,43 @@ pub(crate) fn kind_of<R: std::rt::Files + AllocGlobal + Clone + Drop>(
     if !data.is_dir() {
         return Ok(Kind::Other);
     }
-    match fs::read_dir(rt, path)?.next() {
-        None => Ok(Kind::Absent),
-        Some(Ok(_)) => Ok(Kind::Dir),
-        Some(Err(e)) => Err(e),
+    kind_of_directory(rt, path)
+}
+
+// A directory with an entry is something, whatever the entry's name.
+fn kind_of_directory<R: std::rt::Files + AllocGlobal + Clone + Drop>(
+    rt: &R,
+    path: &str,
+) -> io::Result<Kind> {
+    let Some(entry) = fs::read_dir(rt, path)?.next() else {
+        return Ok(Kind::Absent);
+    };
+    match entry {
+        Ok(_) => Ok(Kind::Dir),
+        Err(e) => {
+            if e.kind() == ErrorKind::InvalidFilename {
+                return Ok(Kind::Dir);
+            }
+            Err(e)
+        }
     }
 }
 
-/// The size of the file there, None where there is none. What is neither file nor directory is an error.
+/// Whether a directory stands there, or a link to one.
+pub(crate) fn is_directory<R: std::rt::Files>(rt: &R, path: &str) -> io::Result<bool> {
+    match fs::metadata(rt, path) {
+        Ok(data) => Ok(data.is_dir()),
+        Err(e) => {
+            if is_absent(&e) {
+                return Ok(false);
+            }
+            Err(e)
+        }
+    }
+}
+
+/// The size of the file there, None where there is none. What is neither file nor directory is an
+/// error.
 pub(crate) fn size_of<R: std::rt::Files + AllocGlobal + Clone + Drop>(
     rt: &R,
     path: &str,
@@ -86,7 +115,10 @@ pub(crate) fn fill_from<R: std::rt::Files + AllocGlobal + Clone + Drop>(
 ) -> io::Result<usize>
     ensures { IfOk result (λ count. count ≤ length buffer.old) }
 {
-    if size_of(rt, path)?.is_none() {
+    let Some(size) = size_of(rt, path)? else {
+        return Ok(0);
+    };
+    if from >= size {
         return Ok(0);
     }
     let mut file = fs::open(rt, path)?;
@@ -94,7 +126,8 @@ pub(crate) fn fill_from<R: std::rt::Files + AllocGlobal + Clone + Drop>(
     fill(&mut file, buffer)
 }
 
-/// The whole file, None where there is none. A file that ends earlier than its size, or goes on, is an error.
+/// The whole file, None where there is none. A file that ends earlier than its size, or goes on, is
+/// an error.
 pub(crate) fn read_whole<R: std::rt::Files + AllocGlobal + Clone + Drop>(
     rt: &R,
     alloc: Global,
