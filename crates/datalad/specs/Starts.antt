@@ -2,35 +2,28 @@
 use Rattle.std.specs.Prelude.{◌≡◌, ◌↔◌, ℕ, ◌*◌, ◌+◌, ◌^◌, ◌≤◌, ◌<◌, List}
 use Rattle.std.specs.declared.io.ErrorKind.{ErrorKind}
 use Rattle.std.specs.declared.io.ErrorKind.TheVariants.{OutOfMemory}
-use Rattle.datalad_cli.specs.Answer.{Call, device_text, memory_text}
+use Rattle.datalad_cli.specs.Answer.{device_text, memory_text}
 use Rattle.datalad_cli.specs.Codes.{code_of}
-use Rattle.datalad_cli.specs.Ends.{World, Telling, CallEnds, WordsDecide}
 use Rattle.datalad_cli.specs.declared.status.Status.{Status}
 use Rattle.datalad_cli.specs.declared.status.Status.TheVariants.{Device, NoMemory}
 use Rattle.datalad.specs.declared.start.Failure.{Failure}
 use Rattle.datalad.specs.declared.start.Failure.TheVariants.{Host, NoMemory as NoMemoryToBegin}
 
--- the whole seconds in a number of nanoseconds
+-- The whole seconds in a number of nanoseconds.
 pub record IsSeconds (nanos seconds : ℕ) : Type 0 where
   pub passed : seconds * 10 ^ 9 ≤ nanos
   pub whole : nanos < (seconds + 1) * 10 ^ 9
 
--- an error of the host is want of memory exactly where its kind says so
+-- An error of the host is want of memory exactly where its kind says so.
 abbrev pub IsFailureOf : ErrorKind → Failure → Type 0
 IsFailureOf kind failure = (failure ≡ NoMemoryToBegin) ↔ (kind ≡ OutOfMemory)
 
--- a program that can't begin ends as if a device had failed, or for want of memory
+-- A program that can't begin ends as if a device had failed, or for want of memory.
 abbrev pub ending : Failure → Status
 ending Host = Device
 ending NoMemoryToBegin = NoMemory
 
+-- The text of a program that can't begin.
 abbrev pub ending_text : Failure → List ℕ
 ending_text Host = device_text
 ending_text NoMemoryToBegin = memory_text
-
--- The program exits by the status of its one call.
-pub record ExitsBy (telling : Telling) (call : Call) (old new : World) (code : ℕ) : Type 0 where
-  pub status : Status
-  pub ends : CallEnds telling call old new status
-  pub words : WordsDecide telling call old new status
-  pub code_is : code ≡ code_of status

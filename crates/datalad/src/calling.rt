@@ -1,29 +1,35 @@
-// One call of the program, over any files and outputs, and the number by which it exits.
-ghost use Rattle.std.specs.Prelude.{map, string_bytes};
+// One call of the program, over any files and outputs.
+ghost use Rattle.std.specs.Prelude.{map, string_bytes, IsTrue};
 ghost use Rattle.datalad_cli.specs.Answer.{call_of};
-ghost use Rattle.datalad_cli.specs.Ends.{telling_of, world_of};
-ghost use Rattle.datalad.specs.Starts.{ExitsBy};
+ghost use Rattle.datalad_cli.specs.Commands.{reading};
+ghost use Rattle.datalad_cli.specs.Decides.{WordsDecide};
+ghost use Rattle.datalad_cli.specs.Ends.{CallEnds, CallGoes, telling_of, world_of};
 
 use crate::start::Start;
-use datalad_cli::datalad;
+use datalad_cli::{Ended, run};
 use file_store::{Files, Sink};
 use std::alloc::Global;
 
-/// One call over these files and outputs. The answer is the exit status: the number of the status by which the call
-/// ended.
+/// One call over these files and outputs. What it answers can't be made but by such a call.
 pub(crate) fn call<F: Files, O: Sink, E: Sink>(
     alloc: Global,
     start: &Start,
     files: &mut F,
     out: &mut O,
     err: &mut E,
-) -> u8
-    ensures { ExitsBy (telling_of F.tells O.tells E.tells)
-        (call_of (map string_bytes start.now.words.items) start.now.cwd start.now.moment start.now.fresh)
+) -> Ended
+    ensures ends { let call = call_of (map string_bytes start.now.words.items) start.now.cwd start.now.moment start.now.fresh in
+        CallEnds (telling_of F.tells O.tells E.tells) (reading call)
         (world_of (F.drive files.old) (O.tape out.old) (E.tape err.old))
         (world_of (F.drive files.new) (O.tape out.new) (E.tape err.new)) result }
+    ensures words { let call = call_of (map string_bytes start.now.words.items) start.now.cwd start.now.moment start.now.fresh in
+        WordsDecide (telling_of F.tells O.tells E.tells) (reading call)
+        (world_of (F.drive files.old) (O.tape out.old) (E.tape err.old))
+        (world_of (F.drive files.new) (O.tape out.new) (E.tape err.new)) result }
+    ensures crash { let call = call_of (map string_bytes start.now.words.items) start.now.cwd start.now.moment start.now.fresh in
+        IsTrue F.tells → CallGoes (reading call) (F.drive files.old) (F.drive files.new) }
 {
-    let status = datalad(
+    run(
         alloc,
         start.words.as_slice(),
         &start.cwd,
@@ -32,6 +38,5 @@ pub(crate) fn call<F: Files, O: Sink, E: Sink>(
         files,
         out,
         err,
-    );
-    status.code()
+    )
 }

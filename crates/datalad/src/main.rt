@@ -14,7 +14,7 @@ fn run(rt: &HostRuntime) -> Result<u8, Failure> {
     let mut files = HostFiles::new(rt.alloc(), rt.clone()?);
     let mut out = HostSink::new(rt.stdout());
     let mut err = HostSink::new(rt.stderr());
-    Ok(call(rt.alloc(), &start, &mut files, &mut out, &mut err))
+    Ok(call(rt.alloc(), &start, &mut files, &mut out, &mut err).code())
 }
 
 fn main(rt: HostRuntime) -> ExitCode {

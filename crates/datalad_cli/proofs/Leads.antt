@@ -3,9 +3,9 @@ use Rattle.std.proofs.Common.{◌≡◌, ◌<◌, ◌≤◌, ℕ, Bool, true, fa
 use Rattle.std.specs.Prelude.{nat_le}
 use Rattle.std.proofs.lemmas.Bool.Decides.{nat_tests}
 use Rattle.std.specs.List.{list_all}
-use Rattle.places.specs.Names.{IsPlace, is_name, text_of, longest, target, has_name}
+use Rattle.places.specs.Names.{Names, IsPlace, is_name, text_of, longest, target, has_name}
 use Rattle.places.proofs.Texts.{and_both, all_names, names_all}
-use Rattle.datalad_cli.specs.Layout.{dlrepo}
+use Rattle.repository.specs.Layout.{dlrepo}
 use Rattle.datalad_cli.specs.Words.{is_place, may_be_made, leads}
 
 short : (n : ℕ) → n ≤ longest → nat_le n longest ≡ true
@@ -16,11 +16,11 @@ is_short n h = grind (arith, nat_tests)
 
 -- the test of a place, both ways
 
-place_is : (ns : List (List ℕ)) → IsPlace ns → is_place ns ≡ true
+place_is : (ns : Names) → IsPlace ns → is_place ns ≡ true
 unfolding is_place
 place_is ns h = λ i. names_all ns h.names i && short (length (text_of ns)) h.fits i
 
-is_one : (ns : List (List ℕ)) → is_place ns ≡ true → IsPlace ns
+is_one : (ns : Names) → is_place ns ≡ true → IsPlace ns
 unfolding is_place
 is_one ns h =
     let both = and_both (list_all is_name ns) (nat_le (length (text_of ns)) longest) h in
@@ -30,32 +30,32 @@ never_true : (b : Bool) → (b ≡ true → ⊥) → b ≡ false
 never_true true h = absurd (h refl)
 never_true false h = refl
 
-no_place : (ns : List (List ℕ)) → (IsPlace ns → ⊥) → is_place ns ≡ false
+no_place : (ns : Names) → (IsPlace ns → ⊥) → is_place ns ≡ false
 no_place ns h = never_true (is_place ns) (λ e. h (is_one ns e))
 
-may : (ns : List (List ℕ)) → IsPlace ns → has_name dlrepo ns ≡ false → may_be_made ns ≡ true
+may : (ns : Names) → IsPlace ns → has_name dlrepo ns ≡ false → may_be_made ns ≡ true
 unfolding may_be_made
 may ns h k = λ i. place_is ns h i && not (k i)
 
-may_not : (ns : List (List ℕ)) → IsPlace ns → has_name dlrepo ns ≡ true → may_be_made ns ≡ false
+may_not : (ns : Names) → IsPlace ns → has_name dlrepo ns ≡ true → may_be_made ns ≡ false
 unfolding may_be_made
 may_not ns h k = λ i. place_is ns h i && not (k i)
 
-may_not_at : (ns : List (List ℕ)) → (IsPlace ns → ⊥) → may_be_made ns ≡ false
+may_not_at : (ns : Names) → (IsPlace ns → ⊥) → may_be_made ns ≡ false
 unfolding may_be_made
 may_not_at ns h = λ i. no_place ns h i && not (has_name dlrepo ns)
 
 -- THE LAWS of leads
 
-pub leads_there : (cwd : List (List ℕ)) (word : List ℕ) → 0 < length word → IsPlace (target cwd word) → has_name dlrepo (target cwd word) ≡ false
+pub leads_there : (cwd : Names) (word : List ℕ) → 0 < length word → IsPlace (target cwd word) → has_name dlrepo (target cwd word) ≡ false
     → leads cwd word ≡ Some (target cwd word)
 leads_there cwd [] some h k = absurd (omega arith)
 leads_there cwd (b ∷ word) some h k = λ i. if may (target cwd (b ∷ word)) h k i then Some (target cwd (b ∷ word)) else None
 
-pub leads_inside : (cwd : List (List ℕ)) (word : List ℕ) → IsPlace (target cwd word) → has_name dlrepo (target cwd word) ≡ true → leads cwd word ≡ None
+pub leads_inside : (cwd : Names) (word : List ℕ) → IsPlace (target cwd word) → has_name dlrepo (target cwd word) ≡ true → leads cwd word ≡ None
 leads_inside cwd [] h k = refl
 leads_inside cwd (b ∷ word) h k = λ i. if may_not (target cwd (b ∷ word)) h k i then Some (target cwd (b ∷ word)) else None
 
-pub leads_nowhere : (cwd : List (List ℕ)) (word : List ℕ) → (0 < length word → IsPlace (target cwd word) → ⊥) → leads cwd word ≡ None
+pub leads_nowhere : (cwd : Names) (word : List ℕ) → (0 < length word → IsPlace (target cwd word) → ⊥) → leads cwd word ≡ None
 leads_nowhere cwd [] h = refl
 leads_nowhere cwd (b ∷ word) h = λ i. if may_not_at (target cwd (b ∷ word)) (h (omega arith)) i then Some (target cwd (b ∷ word)) else None

@@ -3,6 +3,7 @@ use Rattle.std.specs.Prelude.{ℕ}
 use Rattle.datalad_cli.specs.declared.status.Status.{Status}
 use Rattle.datalad_cli.specs.declared.status.Status.TheVariants.{Done, Refused, Usage, NoMemory, Device, CommandFailed}
 
+-- The exit status, as a number.
 abbrev pub code_of : Status → ℕ
 code_of Done = 0
 code_of (Refused fault) = 1

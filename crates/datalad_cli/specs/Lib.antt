@@ -1,13 +1,7 @@
-pub mod Acts
-pub mod Agree
 pub mod Answer
-pub mod Ends
 pub mod Codes
-pub mod Created
-pub mod Creating
-pub mod FaultTexts
-pub mod Layout
-pub mod Plans
+pub mod Commands
+pub mod Decides
+pub mod Ends
 pub mod Reports
 pub mod Words
-pub mod Writing

@@ -2,75 +2,118 @@
 use Rattle.std.specs.Prelude.{◌≡◌, ◌⊎◌, ℕ, ◌≤◌, Bool, IsTrue, List, [], ◌++◌, length, take, Result, Ok, Err}
 use Rattle.file_store.specs.Causes.{Rose}
 use Rattle.file_store.specs.Tape.{Tape}
-use Rattle.file_store.specs.declared.lines.Line.{Line}
-use Rattle.file_store.specs.declared.faults.Fault.{Fault}
-use Rattle.file_store.specs.declared.faults.Trouble.{Trouble}
-use Rattle.file_store.specs.declared.faults.Trouble.TheVariants.{Refused as RefusedBy, Device as ByDevice, NoMemory as ByMemory}
-use Rattle.datalad_cli.specs.FaultTexts.{fault_text}
+use Rattle.faults.specs.declared.lines.Line.{Line}
+use Rattle.faults.specs.declared.faults.Fault.{Fault}
+use Rattle.faults.specs.declared.faults.Trouble.{Trouble}
+use Rattle.faults.specs.declared.faults.Trouble.TheVariants.{Refused as RefusedBy, Device as ByDevice, NoMemory as ByMemory}
+use Rattle.faults.specs.Texts.{fault_text}
 use Rattle.datalad_cli.specs.Answer.{lines_text, usage_text, device_text, memory_text}
 use Rattle.datalad_cli.specs.declared.status.Status.{Status}
 use Rattle.datalad_cli.specs.declared.status.Status.TheVariants.{Done, Refused, Usage, NoMemory, Device, CommandFailed}
 
--- what the two outputs tell at one moment
+-- What the two outputs tell at one moment.
 pub record Tapes : Type 0 where
   pub out : Tape
   pub err : Tape
 
--- which of them tell
+-- Which of them tell.
 pub record Heard : Type 0 where
   pub out : Bool
   pub err : Bool
 
--- the two outputs have these texts after what they had
+-- The two outputs have these texts after what they had.
 pub record Says (heard : Heard) (out err : List ℕ) (old new : Tapes) : Type 0 where
   pub out_has : IsTrue heard.out → new.out.bytes ≡ old.out.bytes ++ out
   pub err_has : IsTrue heard.err → new.err.bytes ≡ old.err.bytes ++ err
 
--- an output took a first part of a text
+-- An output took a first part of a text.
 abbrev pub TookPart : Tape → Tape → List ℕ → Type 0
 TookPart old new text = (n : ℕ) × (n ≤ length text) × (new.bytes ≡ old.bytes ++ take n text)
 
--- first parts of the texts, the second one's that of the command or that of the failure
-pub record SaysPart (heard : Heard) (out err failure : List ℕ) (old new : Tapes) : Type 0 where
-  pub out_part : IsTrue heard.out → TookPart old.out new.out out
-  pub err_part : IsTrue heard.err → TookPart old.err new.err err ⊎ TookPart old.err new.err failure
+-- An output failed, or found no memory.
+abbrev pub WasHindered : Tape → Tape → Type 0
+WasHindered old new = Rose old.faults new.faults ⊎ Rose old.wants new.wants
 
--- the second text of a command that ended so
+-- An output took a text whole; or it failed or found no memory, and took a first part.
+abbrev pub TookText : Tape → Tape → List ℕ → Type 0
+TookText old new text =
+    (new.bytes ≡ old.bytes ++ text) ⊎ (WasHindered old new × TookPart old new text)
+
+-- A failure: its text, and which count of an output rises where it cuts off what is printed.
+pub record Failure : Type 0 where
+  pub text : List ℕ
+  pub count : Tape → ℕ
+
+-- A device failed.
+abbrev pub of_device : Failure
+of_device = record { text = device_text; count = λ tape. tape.faults }
+
+-- Memory was wanting.
+abbrev pub of_memory : Failure
+of_memory = record { text = memory_text; count = λ tape. tape.wants }
+
+-- A failure of the output itself cut off the text that was printed.
+abbrev pub WasCutShort : Failure → Tape → Tape → List ℕ → Type 0
+WasCutShort failure old new text =
+    Rose (failure.count old) (failure.count new) × TookPart old new text
+
+-- The first output has a first part of its text; the second one has the failure's text, whole
+-- where neither of its counts rose, or the failure was its own and cut off the command's text.
+pub record SaysPart (heard : Heard) (out err : List ℕ) (failure : Failure) (old new : Tapes)
+    : Type 0 where
+  pub out_part : IsTrue heard.out → TookPart old.out new.out out
+  pub err_part : IsTrue heard.err →
+      WasCutShort failure old.err new.err err ⊎ TookText old.err new.err failure.text
+
+-- The second text of a command that ended so.
 abbrev pub outcome_text : Result (Unit {0}) Trouble → List ℕ
 outcome_text (Ok _) = []
 outcome_text (Err (RefusedBy fault)) = fault_text fault
 outcome_text (Err ByDevice) = []
 outcome_text (Err ByMemory) = []
 
+-- A count of faults of an output rose.
 abbrev pub SomeRose : Tapes → Tapes → Type 0
 SomeRose old new = Rose old.out.faults new.out.faults ⊎ Rose old.err.faults new.err.faults
 
--- the status is the outcome's, with its texts; or an output failed or memory was wanting, with first parts of them
-abbrev pub ReportEnds : Heard → List Line → Result (Unit {0}) Trouble → Tapes → Tapes → Status → Type 0
-ReportEnds heard lines outcome old new Done = (outcome ≡ Ok tt) × Says heard (lines_text lines) [] old new
-ReportEnds heard lines outcome old new (Refused fault) = (outcome ≡ Err (RefusedBy fault)) × Says heard (lines_text lines) (fault_text fault) old new
+-- The status is the outcome's, with its texts; or a device failed or memory was wanting, with first
+-- parts of them and the text of that failure.
+abbrev pub ReportEnds : Heard → List Line → Result (Unit {0}) Trouble → Tapes → Tapes → Status
+    → Type 0
+ReportEnds heard lines outcome old new Done =
+    (outcome ≡ Ok tt) × Says heard (lines_text lines) [] old new
+ReportEnds heard lines outcome old new (Refused fault) =
+    (outcome ≡ Err (RefusedBy fault)) × Says heard (lines_text lines) (fault_text fault) old new
 ReportEnds heard lines outcome old new Device =
-    ((outcome ≡ Err ByDevice) ⊎ SomeRose old new) × SaysPart heard (lines_text lines) (outcome_text outcome) device_text old new
-ReportEnds heard lines outcome old new NoMemory = SaysPart heard (lines_text lines) (outcome_text outcome) memory_text old new
+    ((outcome ≡ Err ByDevice) ⊎ SomeRose old new)
+    × SaysPart heard (lines_text lines) (outcome_text outcome) of_device old new
+ReportEnds heard lines outcome old new NoMemory =
+    SaysPart heard (lines_text lines) (outcome_text outcome) of_memory old new
 ReportEnds heard lines outcome old new (Usage at) = ⊥
 ReportEnds heard lines outcome old new (CommandFailed got) = ⊥
 
--- a refused command's text on the second output
+-- A refused command's text on the second output; where no memory was found for it, the text of
+-- that failure.
 abbrev pub RefusalEnds : Bool → Fault → Tape → Tape → Status → Type 0
-RefusalEnds heard fault old new (Refused f) = (f ≡ fault) × (IsTrue heard → new.bytes ≡ old.bytes ++ fault_text fault)
+RefusalEnds heard fault old new (Refused f) =
+    (f ≡ fault) × (IsTrue heard → new.bytes ≡ old.bytes ++ fault_text fault)
 RefusalEnds heard fault old new Device =
-    Rose old.faults new.faults × (IsTrue heard → TookPart old new (fault_text fault) ⊎ TookPart old new device_text)
-RefusalEnds heard fault old new NoMemory = IsTrue heard → TookPart old new (fault_text fault) ⊎ TookPart old new memory_text
+    Rose old.faults new.faults × (IsTrue heard → TookPart old new (fault_text fault))
+RefusalEnds heard fault old new NoMemory =
+    IsTrue heard → WasCutShort of_memory old new (fault_text fault) ⊎ TookText old new memory_text
 RefusalEnds heard fault old new Done = ⊥
 RefusalEnds heard fault old new (Usage at) = ⊥
 RefusalEnds heard fault old new (CommandFailed got) = ⊥
 
--- words without a reading: their text on the second output
+-- Words without a reading: their text on the second output; where no memory was found for it, the
+-- text of that failure.
 abbrev pub UsageEnds : Bool → ℕ → Tape → Tape → Status → Type 0
-UsageEnds heard at old new (Usage n) = (n ≡ at) × (IsTrue heard → new.bytes ≡ old.bytes ++ usage_text at)
+UsageEnds heard at old new (Usage n) =
+    (n ≡ at) × (IsTrue heard → new.bytes ≡ old.bytes ++ usage_text at)
 UsageEnds heard at old new Device =
-    Rose old.faults new.faults × (IsTrue heard → TookPart old new (usage_text at) ⊎ TookPart old new device_text)
-UsageEnds heard at old new NoMemory = IsTrue heard → TookPart old new (usage_text at) ⊎ TookPart old new memory_text
+    Rose old.faults new.faults × (IsTrue heard → TookPart old new (usage_text at))
+UsageEnds heard at old new NoMemory =
+    IsTrue heard → WasCutShort of_memory old new (usage_text at) ⊎ TookText old new memory_text
 UsageEnds heard at old new Done = ⊥
 UsageEnds heard at old new (Refused fault) = ⊥
 UsageEnds heard at old new (CommandFailed got) = ⊥

@@ -1,13 +1,14 @@
 // Printing what came of a call: the result lines, then the text of the ending.
-ghost use Rattle.std.specs.Prelude.{◌≡◌, ◌≤◌, IsTrue, IfOk, string_bytes};
-ghost use Rattle.file_store.specs.Lines.{line_text as line_of};
+ghost use Rattle.std.specs.Prelude.{◌≡◌, IsTrue, IfOk, string_bytes};
+ghost use Rattle.faults.specs.Lines.{line_text as line_of};
+ghost use Rattle.file_store.specs.Tape.{IsLater};
 ghost use Rattle.datalad_cli.specs.Answer.{lines_text as lines_of, device_text, memory_text, usage_text as usage_of};
-ghost use Rattle.datalad_cli.specs.Reports.{TookPart, UsageEnds, RefusalEnds, ReportEnds};
+ghost use Rattle.datalad_cli.specs.Reports.{TookText, UsageEnds, RefusalEnds, ReportEnds};
 ghost use Rattle.datalad_cli.specs.declared.status.Status.TheVariants.{Device, NoMemory};
 
-use crate::fault_texts::fault_text;
 use crate::status::Status;
-use file_store::{Fault, Line, PlaceErr, Sink, SinkErr, Trouble, write_whole};
+use faults::{Fault, Line, Trouble, fault_text};
+use file_store::{PlaceErr, Sink, SinkErr, write_whole};
 use std::alloc::{AllocError, Global};
 
 // All lines, one after the other.
@@ -39,9 +40,9 @@ fn usage_text(alloc: Global, at: u64) -> Result<String, AllocError>
 
 // The ending where a device failed. What comes of its text changes nothing any more.
 fn failed<S: Sink>(sink: &mut S) -> Status
-    ensures later { (S.tape sink.old).faults ≤ (S.tape sink.new).faults }
+    ensures later { IsLater (S.tape sink.old) (S.tape sink.new) }
     ensures status { result ≡ Device }
-    ensures part { IsTrue S.tells → TookPart (S.tape sink.old) (S.tape sink.new) device_text }
+    ensures text { IsTrue S.tells → TookText (S.tape sink.old) (S.tape sink.new) device_text }
 {
     let _ = write_whole(sink, b"datalad: a device failed\n");
     Status::Device
@@ -49,9 +50,9 @@ fn failed<S: Sink>(sink: &mut S) -> Status
 
 // The ending where memory was wanting.
 fn starved<S: Sink>(sink: &mut S) -> Status
-    ensures later { (S.tape sink.old).faults ≤ (S.tape sink.new).faults }
+    ensures later { IsLater (S.tape sink.old) (S.tape sink.new) }
     ensures status { result ≡ NoMemory }
-    ensures part { IsTrue S.tells → TookPart (S.tape sink.old) (S.tape sink.new) memory_text }
+    ensures text { IsTrue S.tells → TookText (S.tape sink.old) (S.tape sink.new) memory_text }
 {
     let _ = write_whole(sink, b"datalad: no memory\n");
     Status::NoMemory
@@ -59,7 +60,7 @@ fn starved<S: Sink>(sink: &mut S) -> Status
 
 /// The ending of words that have no reading.
 pub(crate) fn say_usage<S: Sink>(alloc: Global, sink: &mut S, at: u64) -> Status
-    ensures later { (S.tape sink.old).faults ≤ (S.tape sink.new).faults }
+    ensures later { IsLater (S.tape sink.old) (S.tape sink.new) }
     ensures ends { UsageEnds S.tells at (S.tape sink.old) (S.tape sink.new) result }
 {
     match usage_text(alloc, at) {
@@ -74,7 +75,7 @@ pub(crate) fn say_usage<S: Sink>(alloc: Global, sink: &mut S, at: u64) -> Status
 
 // The ending of a refused command.
 fn say_refused<S: Sink>(alloc: Global, sink: &mut S, fault: Fault) -> Status
-    ensures later { (S.tape sink.old).faults ≤ (S.tape sink.new).faults }
+    ensures later { IsLater (S.tape sink.old) (S.tape sink.new) }
     ensures ends { RefusalEnds S.tells fault (S.tape sink.old) (S.tape sink.new) result }
 {
     match fault_text(alloc, &fault) {
@@ -95,8 +96,8 @@ pub(crate) fn report<O: Sink, E: Sink>(
     lines: &[Line],
     outcome: Result<(), Trouble>,
 ) -> Status
-    ensures out_later { (O.tape out.old).faults ≤ (O.tape out.new).faults }
-    ensures err_later { (E.tape err.old).faults ≤ (E.tape err.new).faults }
+    ensures out_later { IsLater (O.tape out.old) (O.tape out.new) }
+    ensures err_later { IsLater (E.tape err.old) (E.tape err.new) }
     ensures ends { ReportEnds (record { out = O.tells; err = E.tells }) lines.now outcome
         (record { out = O.tape out.old; err = E.tape err.old })
         (record { out = O.tape out.new; err = E.tape err.new }) result }

@@ -1,7 +1,7 @@
 // How a call of the program ends.
 ghost use Rattle.std.specs.Prelude.{◌≡◌};
 
-use file_store::Fault;
+use faults::Fault;
 
 /// How a call ended. A device failed only where a count of faults rose.
 #[derive(Debug, Drop)]

@@ -1,17 +1,18 @@
 // The top call: one command, from its words to its two texts and its status.
-ghost use Rattle.std.specs.Prelude.{◌≡◌, ◌≤◌, [], map, string_bytes, IsTrue};
-ghost use Rattle.file_store.specs.Ends.{present};
-ghost use Rattle.datalad_cli.specs.Acts.{ActEnds, act_ground, act_objects, place_or_top};
-ghost use Rattle.datalad_cli.specs.Creating.{Partly};
+ghost use Rattle.std.specs.Prelude.{◌≡◌, [], map, string_bytes, IsTrue};
+ghost use Rattle.acts.specs.Ends.{Acts};
 ghost use Rattle.datalad_cli.specs.Answer.{call_of};
-ghost use Rattle.datalad_cli.specs.Ends.{CallEnds, WordsDecide, telling_of, world_of};
+ghost use Rattle.datalad_cli.specs.Commands.{Create, step_of, MayAnswer, MaySay, reading};
+ghost use Rattle.datalad_cli.specs.Decides.{WordsDecide};
+ghost use Rattle.datalad_cli.specs.Ends.{CallEnds, CallGoes, telling_of, world_of};
 ghost use Rattle.datalad_cli.specs.Words.{leads};
 
-use crate::creating::create;
 use crate::reporting::{report, say_usage};
 use crate::status::Status;
 use crate::words::{dir_of, misread_at, root_of};
-use file_store::{Fault, Files, Line, Place, Sink, Trouble};
+use faults::{Fault, Line, Trouble};
+use file_store::{Files, Place, Sink};
+use recursive_save::create;
 use std::alloc::Global;
 
 // `create` of a word.
@@ -25,14 +26,10 @@ fn act<F: Files>(
     lines: &mut Vec<Line>,
 ) -> Result<(), Trouble>
     requires { lines.old.items ≡ [] }
-    ensures later { (F.drive files.old).faults ≤ (F.drive files.new).faults }
-    ensures ends { ActEnds F.tells (leads cwd.now word.now) moment fresh.now lines.new.items
+    ensures says { MaySay (Create (leads cwd.now word.now) moment fresh.now) lines.new.items result }
+    ensures acts { let command = Create (leads cwd.now word.now) moment fresh.now in Acts (λ fault. MayAnswer
+        F.tells command fault) F.tells (step_of command) lines.old.items lines.new.items
         (F.drive files.old) (F.drive files.new) result }
-    ensures left { IsTrue F.tells → Partly (place_or_top (leads cwd.now word.now))
-        (act_objects (leads cwd.now word.now) moment fresh.now)
-        (present (F.drive files.old))
-        (act_ground (leads cwd.now word.now) moment fresh.now (present (F.drive files.old)))
-        (present (F.drive files.new)) }
 {
     match root_of(alloc, cwd, word)? {
         None => Err(Trouble::Refused(Fault::BadPath { at: 1 })),
@@ -59,13 +56,19 @@ pub fn datalad<F: Files, O: Sink, E: Sink>(
     err: &mut E,
 ) -> Status
     ensures ends { CallEnds (telling_of F.tells O.tells E.tells)
-        (call_of (map string_bytes words.now) cwd.now moment fresh)
+        (reading (call_of (map string_bytes words.now) cwd.now moment fresh))
         (world_of (F.drive files.old) (O.tape out.old) (E.tape err.old))
         (world_of (F.drive files.new) (O.tape out.new) (E.tape err.new)) result }
     ensures words { WordsDecide (telling_of F.tells O.tells E.tells)
-        (call_of (map string_bytes words.now) cwd.now moment fresh)
+        (reading (call_of (map string_bytes words.now) cwd.now moment fresh))
         (world_of (F.drive files.old) (O.tape out.old) (E.tape err.old))
         (world_of (F.drive files.new) (O.tape out.new) (E.tape err.new)) result }
+
+    // At every moment, and so after every answer, the disk lies between two neighbours among the grounds that the
+    // rounds of the command's act make of what stood: at each place outside the unfinished writes it has what one of
+    // them has there, and a crash leaves that, or what was open there at the start.
+    ensures crash { IsTrue F.tells → CallGoes (reading (call_of (map string_bytes words.now) cwd.now moment
+        fresh)) (F.drive files.old) (F.drive files.new) }
 {
     if let Some(at) = misread_at(words) {
         return say_usage(alloc, err, at);

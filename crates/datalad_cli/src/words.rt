@@ -2,7 +2,7 @@
 ghost use Rattle.std.specs.Prelude.{◌≡◌, codes, nat_eq, map, string_bytes, bytes_eq, MatchResult, None, Some};
 ghost use Rattle.std.specs.List.{starts_with};
 ghost use Rattle.places.specs.Names.{has_name};
-ghost use Rattle.datalad_cli.specs.Layout.{dlrepo};
+ghost use Rattle.repository.specs.Layout.{dlrepo};
 ghost use Rattle.datalad_cli.specs.Words.{misread, dir_word, leads};
 
 use file_store::{Place, PlaceErr};

@@ -1,7 +1,7 @@
 use Rattle.datalad_cli.specs.Answer.{memory_text}
-use Rattle.datalad_cli.proofs.Printed.{took}
+use Rattle.datalad_cli.proofs.Printed.{told_text}
 use Rattle.datalad_cli.proofs.reporting.starved.Goals as goal
 
-pub returns-clause-part : goal.returns-clause-part
-returns-clause-part g c =
-    took g.S.Sink.tells memory_text (g.S.Sink.tape c.args.sink.now) (g.S.Sink.tape c.write_whole.new.sink) c.write_whole.result c.write_whole.ensures.ends
+pub returns-clause-text : goal.returns-clause-text
+returns-clause-text g c =
+    told_text g.S.Sink.tells memory_text (g.S.Sink.tape c.args.sink.now) (g.S.Sink.tape c.write_whole.new.sink) c.write_whole.result c.write_whole.ensures.ends
