@@ -1,0 +1,8 @@
+// Whole calls, each beside what it is to leave, print and answer.
+mod calls;
+mod courses;
+mod create;
+mod devices;
+mod files;
+mod refusals;
+mod stops;
