@@ -25,6 +25,16 @@ same() {
   if [ "$2" = "$3" ]; then ok "$1"; else failed "$1: got ${2@Q}, and not ${3@Q}"; fi
 }
 
+# none NAME LINES: ok where there are no lines; else they are listed
+none() {
+  if [ -z "$2" ]; then
+    ok "$1: none"
+  else
+    failed "$1: $(wc -l <<<"$2")"
+    sed 's/^/  /' <<<"$2"
+  fi
+}
+
 has() { command -v "$1" >/dev/null; }
 
 # Builds the program where need be, and copies it to a scratch folder, where every user may run it.
@@ -60,4 +70,25 @@ files_of() { (cd "$1" && find . -type f | sed 's|^\./||' | LC_ALL=C sort); }
 # All that stands below a folder: kinds, modes, times, names, and the sums of the files.
 picture() {
   (cd "$1" && { find . -printf '%y %m %T@ %p\n' && find . -type f -exec sha1sum {} +; } 2>/dev/null | LC_ALL=C sort)
+}
+
+# is_dataset FOLDER: whether it holds the eight files of a new dataset, and no other file
+is_dataset() {
+  local uuid='[0-9a-f]{8}-[0-9a-f]{4}-5[0-9a-f]{3}-[89ab][0-9a-f]{3}-[0-9a-f]{12}' main id names
+  names=$(files_of "$1" | sed -E 's|^(\.dlrepo/objects/)[0-9a-f]{2}/[0-9a-f]{38}$|\1ID|')
+  [ "$names" = ".datalad/config
+.dlrepo/HEAD
+.dlrepo/config
+.dlrepo/objects/ID
+.dlrepo/objects/ID
+.dlrepo/objects/ID
+.dlrepo/objects/ID
+.dlrepo/refs/heads/main" ] || return 1
+  [[ $(cat "$1/.datalad/config" && echo .) =~ ^'[datalad "dataset"]'$'\n\tid = '$uuid$'\n'\.$ ]] || return 1
+  [[ $(cat "$1/.dlrepo/config" && echo .) =~ ^'[annex]'$'\n\tuuid = '$uuid$'\n\tnumcopies = 1\n[user]\n\tname = DataLad User\n\temail = user@localhost\n'\.$ ]] || return 1
+  [ "$(cat "$1/.dlrepo/HEAD" && echo .)" = $'ref: refs/heads/main\n.' ] || return 1
+  main=$(cat "$1/.dlrepo/refs/heads/main" && echo .)
+  [[ $main =~ ^[0-9a-f]{40}$'\n'\.$ ]] || return 1
+  id=${main:0:40}
+  [ "$(sha1sum <"$1/.dlrepo/objects/${id:0:2}/${id:2}")" = "$id  -" ] || return 1
 }
