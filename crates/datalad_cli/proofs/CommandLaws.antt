@@ -49,6 +49,7 @@ module _ (act : Act (Unit {0})) (lines : List Line) (d0 d1 : Drive) where
     lies = came.lies;
     says = record {
       out_part = λ h. subst (λ (l : List Line). TookPart t0.out t1.out (lines_text l)) came.said (says.out_part h);
+      out_whole = λ p h. elim (says.out_whole p h) [ inl rose ↦ inl rose | inr whole ↦ inr (subst (λ (l : List Line). t1.out.bytes ≡ t0.out.bytes ++ lines_text l) came.said whole) ];
       err_part = λ h. elim (says.err_part h) [ inl own ↦ inl (own.0, text_part r t0.err t1.err was own.1) | inr other ↦ inr other ];
     };
   }

@@ -1,5 +1,5 @@
 -- How the texts of a call are printed.
-use Rattle.std.specs.Prelude.{◌≡◌, ◌⊎◌, ℕ, ◌≤◌, Bool, IsTrue, List, [], ◌++◌, length, take, Result, Ok, Err}
+use Rattle.std.specs.Prelude.{◌≡◌, ◌⊎◌, ℕ, ◌≤◌, Bool, true, false, IsTrue, List, [], ◌++◌, length, take, Result, Ok, Err}
 use Rattle.file_store.specs.Causes.{Rose}
 use Rattle.file_store.specs.Tape.{Tape}
 use Rattle.faults.specs.declared.lines.Line.{Line}
@@ -39,29 +39,34 @@ abbrev pub TookText : Tape → Tape → List ℕ → Type 0
 TookText old new text =
     (new.bytes ≡ old.bytes ++ text) ⊎ (WasHindered old new × TookPart old new text)
 
--- A failure: its text, and which count of an output rises where it cuts off what is printed.
+-- A failure: its text; which count of an output rises where it cuts off what is printed; and
+-- whether the lines of what is done are printed all the same.
 pub record Failure : Type 0 where
   pub text : List ℕ
   pub count : Tape → ℕ
+  pub prints_lines : Bool
 
--- A device failed.
+-- A device failed: the lines are printed all the same.
 abbrev pub of_device : Failure
-of_device = record { text = device_text; count = λ tape. tape.faults }
+of_device = record { text = device_text; count = λ tape. tape.faults; prints_lines = true }
 
--- Memory was wanting.
+-- Memory was wanting: it may be wanting for the lines too.
 abbrev pub of_memory : Failure
-of_memory = record { text = memory_text; count = λ tape. tape.wants }
+of_memory = record { text = memory_text; count = λ tape. tape.wants; prints_lines = false }
 
 -- A failure of the output itself cut off the text that was printed.
 abbrev pub WasCutShort : Failure → Tape → Tape → List ℕ → Type 0
 WasCutShort failure old new text =
     Rose (failure.count old) (failure.count new) × TookPart old new text
 
--- The first output has a first part of its text; the second one has the failure's text, whole
--- where neither of its counts rose, or the failure was its own and cut off the command's text.
+-- The first output has a first part of its text, and the whole of it where the failure prints the
+-- lines and the output didn't fail; the second one has the failure's text, whole where neither of
+-- its counts rose, or the failure was its own and cut off the command's text.
 pub record SaysPart (heard : Heard) (out err : List ℕ) (failure : Failure) (old new : Tapes)
     : Type 0 where
   pub out_part : IsTrue heard.out → TookPart old.out new.out out
+  pub out_whole : IsTrue failure.prints_lines → IsTrue heard.out →
+      Rose old.out.faults new.out.faults ⊎ (new.out.bytes ≡ old.out.bytes ++ out)
   pub err_part : IsTrue heard.err →
       WasCutShort failure old.err new.err err ⊎ TookText old.err new.err failure.text
 
