@@ -1,11 +1,9 @@
 -- Rounds of acts, one act after the other.
 use Rattle.std.proofs.Common.{◌≡◌, Bool, true, false, ◌||◌, List, refl, sym, ap, subst}
 use Rattle.std.specs.Prelude.{IsTrue}
-use Rattle.places.specs.Names.{Names}
-use Rattle.places.specs.Ground.{Ground, file_at}
-use Rattle.file_store.specs.Disk.{Disk, Drive, is_open, at_rest}
-use Rattle.file_store.specs.Ends.{present}
-use Rattle.file_store.specs.Course.{Round, finally, Arrives, Goes}
+use Rattle.places.specs.All.{Names, Ground, file_at}
+use Rattle.file_store.specs.All.{Disk, Drive, is_open, at_rest, present, Round, finally, Arrives}
+use Rattle.file_store.specs.All.{GoesAlong}
 use Rattle.file_store.proofs.Course.{none_open, rounds_as, goes_as}
 use Rattle.acts.specs.Ends.{IsFirm, Rests}
 
@@ -27,7 +25,7 @@ firm_right f g q firm = record { outside = firm.outside; firm = or_right (f q) (
 abbrev pub IsWider : (Names → Bool) → (Names → Bool) → Type 0
 IsWider f h = (q : Names) → IsFirm h q → IsFirm f q
 
-pub wider_goes : (f h : Names → Bool) → IsWider f h → (rounds : List Round) (old new : Drive) → Goes (IsFirm f) (λ g. rounds) old new → Goes (IsFirm h) (λ g. rounds) old new
+pub wider_goes : (f h : Names → Bool) → IsWider f h → (rounds : List Round) (old new : Drive) → GoesAlong (IsFirm f) (λ g. rounds) old new → GoesAlong (IsFirm h) (λ g. rounds) old new
 wider_goes f h wider rounds old new goes = goes_as refl wider (rounds_as (IsFirm h) (present old) (present old) rounds (λ q firm. refl)) goes
 
 -- SETTLING

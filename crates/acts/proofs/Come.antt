@@ -1,15 +1,14 @@
 -- How far a call has come.
 use Rattle.std.proofs.Common.{◌≡◌, inl, inr, ℕ, Bool, true, false, ◌||◌, ◌&&◌, List, [], ◌∷◌, ◌++◌, Option, Some, None, refl, sym, ◌∙◌, ap, subst, append_assoc, append-nil, IsTrue}
-use Rattle.places.specs.Ground.{Ground, file_at}
-use Rattle.file_store.specs.Disk.{Disk, Drive, MayHave, is_open, at_rest}
-use Rattle.file_store.specs.Course.{Round, finally, LiesBetween, still, WasOpen, Along, LiesAlong}
-use Rattle.file_store.specs.Ends.{present}
+use Rattle.places.specs.All.{Ground, file_at, Names}
+use Rattle.file_store.specs.All.{Disk, Drive, MayHave, is_open, at_rest, Round, finally}
+use Rattle.file_store.specs.All.{LiesBetween, still, WasOpen, Along, LiesAlong, present}
 use Rattle.faults.specs.declared.lines.Line.{Line}
 use Rattle.file_store.proofs.Moments.{last}
 use Rattle.file_store.proofs.Rounds.{finally-append}
 use Rattle.file_store.proofs.Course.{early, rounds_as, LiesAlong-map, stands_or_open}
-use Rattle.places.specs.Names.{Names}
-use Rattle.acts.specs.Acts.{Act, Event, Changes, Tells, rounds_of, lines_of, rounds_in, lines_in, last_of, follow}
+use Rattle.acts.specs.Acts.{Act, Event, Changes, Tells, rounds_of, lines_of, rounds_in, lines_in}
+use Rattle.acts.specs.Acts.{last_of, follow}
 use Rattle.acts.specs.Ends.{IsFirm, Rests, Reaches, HasCome, Moments}
 use Rattle.acts.proofs.Along.{firm_left, firm_right}
 

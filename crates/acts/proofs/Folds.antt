@@ -1,15 +1,15 @@
 -- The laws of folds.
 use Rattle.std.proofs.Common.{◌≡◌, ℕ, ◌+◌, ◌<◌, ◌≤◌, Bool, true, false, ◌||◌, List, [], ◌∷◌, ◌++◌, length, take, drop, get_or, Result, Ok, Err, refl, sym, ◌∙◌, ap, subst, append_assoc, add-one, drop-cons, ◌&&◌}
 use Rattle.std.proofs.lemmas.List.{take_more, take-append-drop, take_all}
-use Rattle.places.specs.Ground.{Ground}
-use Rattle.file_store.specs.Disk.{Drive}
+use Rattle.places.specs.All.{Ground}
+use Rattle.file_store.specs.All.{Drive, finally}
 use Rattle.faults.specs.declared.lines.Line.{Line}
 use Rattle.faults.specs.declared.faults.Trouble.{Trouble}
-use Rattle.faults.specs.declared.faults.Trouble.TheVariants.{NoMemory}
-use Rattle.acts.specs.Acts.{Act, Event, Changes, Tells, Step, Ending, Gives, Refuses, Breaks, is_still, rounds_in, last_of, gives, follow, go_on, bind, fold}
-use Rattle.acts.specs.Ends.{Acts}
-use Rattle.file_store.specs.Course.{finally}
 use Rattle.faults.specs.declared.faults.Fault.{Fault}
+use Rattle.faults.specs.declared.faults.Trouble.TheVariants.{NoMemory}
+use Rattle.acts.specs.Acts.{Act, Event, Changes, Tells, Step, Ending, Gives, Refuses, Breaks}
+use Rattle.acts.specs.Acts.{is_still, rounds_in, last_of, gives, follow, go_on, bind, fold}
+use Rattle.acts.specs.Ends.{Acts}
 use Rattle.file_store.proofs.Rounds.{finally-append}
 use Rattle.acts.proofs.Come.{rounds_of-append}
 use Rattle.acts.proofs.Laws.{seq, fails, done, starved, same_act}

@@ -1,8 +1,6 @@
 -- Calls that only read, as acts.
 use Rattle.std.proofs.Common.{◌≤◌, Bool, Err}
-use Rattle.file_store.specs.Disk.{Drive}
-use Rattle.file_store.specs.Ends.{ReadFails}
-use Rattle.file_store.specs.Troubles.{trouble_of}
+use Rattle.file_store.specs.All.{Drive, ReadFails, trouble_of}
 use Rattle.file_store.specs.declared.errors.FileErr.{FileErr}
 use Rattle.faults.specs.declared.faults.Fault.{Fault}
 use Rattle.file_store.specs.declared.errors.FileErr.TheVariants.{Failed, Blocked, NoMemory}

@@ -2,13 +2,11 @@
 use Rattle.std.proofs.Common.{◌≡◌, ◌≤◌, ℕ, Bool, IsTrue, List, Option, Some, None, Result, Ok, Err, refl, sym, ◌∙◌, ap, subst, arith}
 use Rattle.std.specs.Prelude.{IsErrAnd}
 use Rattle.std.proofs.lemmas.Result.{err_from_is_err_and}
-use Rattle.places.specs.Ground.{Ground}
-use Rattle.file_store.specs.Causes.{Rose}
-use Rattle.file_store.specs.Disk.{Drive, History}
-use Rattle.file_store.specs.Ends.{present, ReadFails}
-use Rattle.file_store.specs.Troubles.{trouble_of}
+use Rattle.places.specs.All.{Ground}
+use Rattle.file_store.specs.All.{Rose, Drive, History, present, ReadFails, trouble_of}
 use Rattle.file_store.specs.declared.errors.FileErr.{FileErr}
-use Rattle.file_store.specs.declared.errors.FileErr.TheVariants.{Failed, Blocked as FileBlocked, NoMemory as FileNoMemory}
+use Rattle.file_store.specs.declared.errors.FileErr.TheVariants.{Failed, Blocked as FileBlocked}
+use Rattle.file_store.specs.declared.errors.FileErr.TheVariants.{NoMemory as FileNoMemory}
 use Rattle.faults.specs.declared.faults.Fault.{Fault}
 use Rattle.faults.specs.declared.faults.Trouble.{Trouble}
 use Rattle.faults.specs.declared.faults.Trouble.TheVariants.{Refused, Device, NoMemory}

@@ -1,21 +1,19 @@
 -- A removal, as an act.
 use Rattle.std.proofs.Common.{◌≡◌, inl, inr, ◌≤◌, Bool, true, false, IsTrue, List, [], ◌∷◌, ◌++◌, Ok, Err, refl, sym, ◌∙◌, ap, arith}
 use Rattle.std.specs.FinMap.{remove}
-use Rattle.places.specs.Names.{Names}
-use Rattle.places.specs.Ground.{file_at, stands}
+use Rattle.places.specs.All.{Names, file_at, stands}
 use Rattle.places.proofs.Grounds.{cases_place, same_ground, file_at-remove_same, file_at-remove_other}
 use Rattle.places.proofs.Standing.{stands-none}
-use Rattle.file_store.specs.Disk.{Disk, Drive, History, at_rest, MayStep, IsRemoved, IsSynced, synced}
-use Rattle.file_store.specs.Ends.{present, RemoveEnds, BarrierEnds}
-use Rattle.file_store.specs.Course.{Goes as GoesAlong}
-use Rattle.file_store.specs.Removed.{Everywhere, removal_of}
-use Rattle.file_store.specs.Troubles.{trouble_of}
+use Rattle.file_store.specs.All.{Disk, Drive, History, at_rest, MayStep, IsRemoved, IsSynced}
+use Rattle.file_store.specs.All.{synced, present, RemoveEnds, BarrierEnds, GoesAlong, Everywhere}
+use Rattle.file_store.specs.All.{removal_of, trouble_of}
 use Rattle.file_store.specs.declared.errors.FileErr.{FileErr}
-use Rattle.file_store.specs.declared.errors.FileErr.TheVariants.{Failed, Blocked as FileBlocked, NoMemory as FileNoMemory}
+use Rattle.file_store.specs.declared.errors.FileErr.TheVariants.{Failed, Blocked as FileBlocked}
+use Rattle.file_store.specs.declared.errors.FileErr.TheVariants.{NoMemory as FileNoMemory}
 use Rattle.faults.specs.declared.lines.Line.{Line}
+use Rattle.faults.specs.declared.faults.Trouble.{Trouble}
 use Rattle.file_store.proofs.Course.{goes_reading, goes_syncing}
 use Rattle.file_store.proofs.Removals.{removing_starts, removing_in_call, cleared, removing_goes}
-use Rattle.faults.specs.declared.faults.Trouble.{Trouble}
 use Rattle.faults.specs.declared.faults.Trouble.TheVariants.{Device, NoMemory}
 use Rattle.acts.specs.Acts.{Gives, none_loose, lines_in}
 use Rattle.acts.specs.Ends.{Reaches, Moments, HasCome, EndsAs, Goes, NoFault, ActsQuietly}

@@ -3,27 +3,26 @@ use Rattle.std.proofs.Common.{◌≡◌, ◌≢◌, ◌⊎◌, inl, inr, ◌≤�
 use Rattle.std.specs.FinMap.{remove}
 use Rattle.std.specs.Prelude.{slice_get, if◌then◌else◌}
 use Rattle.std.proofs.lemmas.Bool.{false≢true}
-use Rattle.places.specs.Ground.{Ground, file_at}
+use Rattle.places.specs.All.{Ground, file_at, Names}
 use Rattle.places.proofs.Grounds.{cases_place, same_ground, file_at-insert_other, file_at-remove_same, file_at-remove_other}
-use Rattle.file_store.specs.Disk.{Disk, Drive, at_rest}
-use Rattle.file_store.specs.Ends.{present}
-use Rattle.file_store.specs.Course.{Round, with_file, changed, Goes as GoesAlong}
-use Rattle.file_store.specs.Removed.{removal_of}
-use Rattle.file_store.specs.Replaced.{ReplaceEnds, IsNoTmp, AreApart, replaced, installed, staged, all_replaced, round_of, replacing, first_shut, block_of}
-use Rattle.file_store.specs.Troubles.{trouble_of}
+use Rattle.file_store.specs.All.{Disk, Drive, at_rest, present, Round, with_file, changed}
+use Rattle.file_store.specs.All.{GoesAlong, removal_of, ReplaceEnds, IsNoTmp, AreApart, replaced}
+use Rattle.file_store.specs.All.{installed, staged, all_replaced, round_of, replacing, first_shut}
+use Rattle.file_store.specs.All.{block_of, trouble_of}
 use Rattle.file_store.specs.declared.errors.FileErr.{FileErr}
-use Rattle.file_store.specs.declared.errors.FileErr.TheVariants.{Failed, Blocked as FileBlocked, NoMemory as FileNoMemory}
+use Rattle.file_store.specs.declared.replacing.Replacement.{Replacement}
+use Rattle.file_store.specs.declared.errors.FileErr.TheVariants.{Failed, Blocked as FileBlocked}
+use Rattle.file_store.specs.declared.errors.FileErr.TheVariants.{NoMemory as FileNoMemory}
 use Rattle.faults.specs.declared.faults.Fault.TheVariants.{Blocked}
 use Rattle.faults.specs.declared.faults.Fault.{Fault}
 use Rattle.faults.specs.declared.faults.Trouble.{Trouble}
-use Rattle.file_store.specs.declared.replacing.Replacement.{Replacement}
 use Rattle.file_store.proofs.Course.{goes_as, goes_words, goes_whole}
 use Rattle.file_store.proofs.Rounds.{with_file_same, with_file_other, LeftBy, changed_other}
 use Rattle.file_store.proofs.ManyFiles.{replaced-round}
-use Rattle.repository.specs.Unfinished.{is_tmp}
+use Rattle.repository.specs.All.{is_tmp}
 use Rattle.acts.specs.Acts.{none_loose}
-use Rattle.places.specs.Names.{Names}
-use Rattle.acts.specs.Ends.{IsFirm, Reaches, Gave, WasRefused, EndsAs, Moments, HasCause, ActsQuietly}
+use Rattle.acts.specs.Ends.{IsFirm, Reaches, Gave, WasRefused, EndsAs, Moments, HasCause}
+use Rattle.acts.specs.Ends.{ActsQuietly}
 use Rattle.acts.specs.Files.{whole_round, put_act, puts, CanReplace, MayBlock}
 use Rattle.acts.proofs.Along.{rests_safe}
 use Rattle.acts.proofs.Come.{begins}

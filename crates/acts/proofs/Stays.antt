@@ -1,17 +1,15 @@
 -- What a course says of a place.
 use Rattle.std.proofs.Common.{◌≡◌, inl, inr, ℕ, Bool, false, List, [], ◌∷◌, Option, Result, sym, ◌∙◌}
 use Rattle.std.proofs.lemmas.Bool.{false≢true, cases_Bool}
-use Rattle.places.specs.Ground.{Ground, file_at}
-use Rattle.file_store.specs.Course.{Round, changed, LiesBetween, still, here, there, LiesAlong}
-use Rattle.file_store.specs.Disk.{Disk, Drive, MayHave, is_open, Since}
-use Rattle.file_store.specs.Ends.{present}
+use Rattle.places.specs.All.{Ground, file_at, Names}
+use Rattle.file_store.specs.All.{Round, changed, LiesBetween, still, here, there, LiesAlong, Disk}
+use Rattle.file_store.specs.All.{Drive, MayHave, is_open, Since, present}
 use Rattle.faults.specs.declared.faults.Trouble.{Trouble}
 use Rattle.faults.specs.declared.lines.Line.{Line}
 use Rattle.file_store.proofs.Images.{MayHave-now}
 use Rattle.file_store.proofs.Moments.{weaken}
 use Rattle.acts.specs.Acts.{Act, rounds_in}
 use Rattle.acts.specs.Ends.{IsFirm, Rests, Goes}
-use Rattle.places.specs.Names.{Names}
 
 -- each ground of a course has it
 abbrev pub EachGround : (Ground → Type 0) → Ground → List Round → Type 0

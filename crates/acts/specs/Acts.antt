@@ -1,8 +1,8 @@
 -- Acts: what a call does, by the ground at which it starts.
-use Rattle.std.specs.Prelude.{ℕ, Bool, true, false, ◌||◌, ◌&&◌, List, [], ◌∷◌, ◌++◌, Option, Some, None}
-use Rattle.places.specs.Names.{Names}
-use Rattle.places.specs.Ground.{Ground}
-use Rattle.file_store.specs.Course.{Round, finally}
+use Rattle.std.specs.Prelude.{ℕ, Bool, true, false, ◌||◌, ◌&&◌, List, [], ◌∷◌, ◌++◌, Option, Some}
+use Rattle.std.specs.Prelude.{None}
+use Rattle.places.specs.All.{Names, Ground}
+use Rattle.file_store.specs.All.{Round, finally}
 use Rattle.faults.specs.declared.lines.Line.{Line}
 use Rattle.faults.specs.declared.faults.Fault.{Fault}
 

@@ -1,17 +1,16 @@
 -- How a call ends that acts.
-use Rattle.std.specs.Prelude.{◌≡◌, ℕ, ◌≤◌, Bool, true, false, IsTrue, List, [], ◌++◌, Option, Result, Ok, Err}
-use Rattle.places.specs.Names.{Names}
-use Rattle.places.specs.Ground.{Ground}
-use Rattle.file_store.specs.Causes.{Rose}
-use Rattle.file_store.specs.Disk.{Disk, Drive, MayHave, is_open, at_rest}
-use Rattle.file_store.specs.Course.{finally, LiesAlong, WasOpen, Goes as GoesAlong}
-use Rattle.file_store.specs.Ends.{present}
+use Rattle.std.specs.Prelude.{◌≡◌, ℕ, ◌≤◌, Bool, true, false, IsTrue, List, [], ◌++◌, Option}
+use Rattle.std.specs.Prelude.{Result, Ok, Err}
+use Rattle.places.specs.All.{Names, Ground}
+use Rattle.file_store.specs.All.{Rose, Disk, Drive, MayHave, is_open, at_rest, finally, LiesAlong}
+use Rattle.file_store.specs.All.{WasOpen, GoesAlong, present}
 use Rattle.faults.specs.declared.lines.Line.{Line}
 use Rattle.faults.specs.declared.faults.Fault.{Fault}
 use Rattle.faults.specs.declared.faults.Trouble.{Trouble}
 use Rattle.faults.specs.declared.faults.Trouble.TheVariants.{Refused, Device, NoMemory}
-use Rattle.repository.specs.Unfinished.{is_tmp}
-use Rattle.acts.specs.Acts.{Act, Event, Ending, Gives, Refuses, Breaks, rounds_of, lines_of, rounds_in, lines_in, last_of}
+use Rattle.repository.specs.All.{is_tmp}
+use Rattle.acts.specs.Acts.{Act, Event, Ending, Gives, Refuses, Breaks, rounds_of, lines_of}
+use Rattle.acts.specs.Acts.{rounds_in, lines_in, last_of}
 
 -- A place of which something is said: no unfinished write, and not loose.
 pub record IsFirm (loose : Names → Bool) (q : Names) : Type 0 where

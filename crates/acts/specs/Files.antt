@@ -1,14 +1,12 @@
 -- The acts of the first calls over files.
-use Rattle.std.specs.Prelude.{◌≡◌, ℕ, Bool, true, List, [], ◌∷◌, ◌++◌, map, if◌then◌else◌, Option, Some, None, slice_get, IsTrue}
-use Rattle.places.specs.Names.{Names}
-use Rattle.places.specs.Ground.{stands}
-use Rattle.file_store.specs.Course.{Round}
-use Rattle.file_store.specs.Replaced.{round_of, first_shut, block_of, AreApart}
-use Rattle.file_store.specs.Removed.{removal_of}
+use Rattle.std.specs.Prelude.{◌≡◌, ℕ, Bool, true, List, [], ◌∷◌, ◌++◌, map, if◌then◌else◌, Option}
+use Rattle.std.specs.Prelude.{Some, None, slice_get, IsTrue}
+use Rattle.places.specs.All.{Names, stands}
+use Rattle.file_store.specs.All.{Round, round_of, first_shut, block_of, AreApart, removal_of}
+use Rattle.file_store.specs.declared.replacing.Replacement.{Replacement}
 use Rattle.faults.specs.declared.faults.Fault.{Fault}
 use Rattle.faults.specs.declared.faults.Fault.TheVariants.{Blocked}
-use Rattle.file_store.specs.declared.replacing.Replacement.{Replacement}
-use Rattle.repository.specs.Unfinished.{is_tmp}
+use Rattle.repository.specs.All.{is_tmp}
 use Rattle.acts.specs.Acts.{Act, Step, Ending, Changes, Gives, Refuses, Breaks, still, none_loose}
 
 -- The whole round of a list: nothing is left at the temporary places, and each place has its bytes.

@@ -1,4 +1,5 @@
 pub mod Acts
+pub mod All
 pub mod Ends
 pub mod Files
 pub mod Reads

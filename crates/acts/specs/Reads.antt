@@ -1,8 +1,7 @@
 -- How a call ends that only reads.
 use Rattle.std.specs.Prelude.{◌≡◌, ◌≤◌, Bool, IsTrue, Result, Ok, Err}
-use Rattle.places.specs.Ground.{Ground}
-use Rattle.file_store.specs.Disk.{Drive}
-use Rattle.file_store.specs.Ends.{present}
+use Rattle.places.specs.All.{Ground}
+use Rattle.file_store.specs.All.{Drive, present}
 use Rattle.faults.specs.declared.faults.Fault.{Fault}
 use Rattle.faults.specs.declared.faults.Trouble.{Trouble}
 use Rattle.faults.specs.declared.faults.Trouble.TheVariants.{Refused, Device, NoMemory}

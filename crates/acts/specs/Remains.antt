@@ -1,8 +1,7 @@
 -- What is left of a ground at the places of which something is said: words for what acts leave,
 -- however far they came.
 use Rattle.std.specs.Prelude.{◌≡◌, ◌⊎◌, ℕ, List, Option}
-use Rattle.places.specs.Names.{Names}
-use Rattle.places.specs.Ground.{Ground, file_at}
+use Rattle.places.specs.All.{Names, Ground, file_at}
 use Rattle.acts.specs.Acts.{none_loose}
 use Rattle.acts.specs.Ends.{IsFirm}
 

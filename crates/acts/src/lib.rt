@@ -1,8 +1,7 @@
 //! Calls that act: the rounds in which each changes the ground, the lines that it says, and how it ends.
 #![tactic(auto)]
 
-ghost use Rattle.file_store.specs.Kinds.{kind_at};
-ghost use Rattle.file_store.specs.Replaced.{only};
+ghost use Rattle.file_store.specs.All.{kind_at, only};
 ghost use Rattle.acts.specs.Acts.{asks};
 ghost use Rattle.acts.specs.Ends.{ActsQuietly, NoFault};
 ghost use Rattle.acts.specs.Files.{puts, removes, CanReplace, MayBlock};

@@ -7,7 +7,7 @@ use Rattle.std.specs.Str.Parse.{ParsesUnsigned, digits_value}
 use Rattle.std.proofs.lemmas.Bool.{and_parts, cases_Bool, cond-true, cond-false, false_from_ne_true, eqb-false, not-true}
 use Rattle.std.proofs.lemmas.Bool.Decides.{nat_tests}
 use Rattle.std.proofs.lemmas.Str.Parse.{IsNumeralModel, numerals_by_value, parse_digits}
-use Rattle.places.specs.Names.{IsPlace, IsText, is_text, names_of, text_of}
+use Rattle.places.specs.All.{IsPlace, IsText, is_text, names_of, text_of}
 use Rattle.places.proofs.Grammar.{is_text-sound, is_text-complete}
 use Rattle.places.proofs.Texts.{names_of-text_of}
 use Rattle.config_text.specs.declared.sections.Section.{Section}

@@ -6,7 +6,7 @@ use Rattle.std.proofs.lemmas.Bool.{cases_Bool, cond-true, cond-false, and_cases,
 use Rattle.std.proofs.lemmas.List.{map-append, take_all, take_more}
 use Rattle.std.proofs.Math.Seq.{get_or-append_seam, take-append_seam}
 use Rattle.config_text.specs.declared.sections.Entry.{Entry}
-use Rattle.config_text.specs.Sections.{PlainSection, is_open, appended}
+use Rattle.config_text.specs.Sections.{PlainSection, is_unended, appended}
 use Rattle.config_text.specs.Laws.{ends_in_return}
 use Rattle.config_text.specs.Lines.{lines_of, without_end, content, line_of}
 use Rattle.config_text.specs.Reading.{with_entry, with_line, or_bad, read_on, contents}
@@ -198,17 +198,17 @@ contents-appended old more h = elim (cases_Bool (length old == 0)) [
         | inl ended ↦
             let same : e.1 ≡ 10 = sym e.3 ∙ eqb-true (get_or old (length old - 1) 0) 10 ended in
             let line : old ≡ e.0 ++ 10 ∷ [] = e.2 ∙ ap (λ (y : ℕ). e.0 ++ y ∷ []) same in
-            let shut : is_open old ≡ false = and_right (not (length old == 0)) (not (get_or old (length old - 1) 0 == 10)) (not_from_true (get_or old (length old - 1) 0 == 10) ended) in
-            ap (λ (z : List ℕ). contents (z ++ more)) (cond-false (is_open old) (old ++ 10 ∷ []) old shut)
+            let shut : is_unended old ≡ false = and_right (not (length old == 0)) (not (get_or old (length old - 1) 0 == 10)) (not_from_true (get_or old (length old - 1) 0 == 10) ended) in
+            ap (λ (z : List ℕ). contents (z ++ more)) (cond-false (is_unended old) (old ++ 10 ∷ []) old shut)
             ∙ ap (λ (z : List ℕ). contents (z ++ more)) line
             ∙ ap contents (append_assoc e.0 (10 ∷ []) more)
             ∙ contents-append e.0 more
             ∙ ap (λ (z : List ℕ). contents z ++ contents more) (sym line)
         | inr open_ ↦
             let other : (e.1 == 10) ≡ false = ap (λ (y : ℕ). y == 10) (sym e.3) ∙ open_ in
-            let left : is_open old ≡ true = and_from (not (length old == 0)) (not (get_or old (length old - 1) 0 == 10)) size (not_from_false (get_or old (length old - 1) 0 == 10) open_) in
+            let left : is_unended old ≡ true = and_from (not (length old == 0)) (not (get_or old (length old - 1) 0 == 10)) size (not_from_false (get_or old (length old - 1) 0 == 10) open_) in
             let return : (e.1 == 13) ≡ false = ap (λ (y : ℕ). y == 13) (sym e.3) ∙ no_return old h size in
-            ap (λ (z : List ℕ). contents (z ++ more)) (cond-true (is_open old) (old ++ 10 ∷ []) old left)
+            ap (λ (z : List ℕ). contents (z ++ more)) (cond-true (is_unended old) (old ++ 10 ∷ []) old left)
             ∙ ap contents (append_assoc old (10 ∷ []) more)
             ∙ contents-append old more
             ∙ ap (λ (z : List (List ℕ)). z ++ contents more) (ap (λ (z : List ℕ). contents (z ++ 10 ∷ [])) e.2 ∙ contents-closed e.0 e.1 other return ∙ ap contents (sym e.2))

@@ -12,7 +12,7 @@ use Rattle.std.proofs.lemmas.Str.{is_utf8-from_IsUtf8, IsUtf8-from_ascii, IsUtf8
 use Rattle.uuid.specs.Text.{lower as lower_case}
 use Rattle.uuid.proofs.RoundTrips.{parses_hyphenated_text}
 use Rattle.uuid.proofs.TextLemmas.{hyphenated_ascii}
-use Rattle.places.specs.Names.{text_of}
+use Rattle.places.specs.All.{text_of}
 use Rattle.config_text.specs.declared.repository.Remote.{Remote}
 use Rattle.config_text.specs.declared.repository.RepoConfig.{RepoConfig}
 use Rattle.config_text.specs.declared.sections.Entry.{Entry}
@@ -21,11 +21,17 @@ use Rattle.config_text.specs.Values.{joined}
 use Rattle.config_text.specs.Lines.{is_name, is_name_byte, is_key, is_key_byte}
 use Rattle.config_text.specs.Sections.{PlainSection, plain, section_text, printed, printed_of}
 use Rattle.config_text.specs.Uuids.{uuid_text}
-use Rattle.config_text.specs.Lookups.{otherwise, value_in, value_alone, is_alone, sub_under, uuid_of}
+use Rattle.config_text.specs.Lookups.{otherwise, value_in, value_alone, is_alone, sub_under}
+use Rattle.config_text.specs.Lookups.{uuid_of}
 use Rattle.config_text.specs.Reading.{or_bad, sections_of}
-use Rattle.config_text.specs.Settings.{is_number, is_count, copies_of, given_copies, is_personal, given_person, is_remote_byte, is_remote_name, place_of, remote_of, remotes_under, remotes_in, remotes_of}
-use Rattle.config_text.specs.Repository.{PlainConfig, plain_config, is_other, config_of, config_read, config_in, remote_text, annex_text, user_text, repo_printed}
-use Rattle.config_text.specs.Laws.{IsPrintable, IsUuid, IsPlainRemote, IsPlainRest, IsPrintableConfig, ConfigIsRead}
+use Rattle.config_text.specs.Settings.{is_number, is_count, copies_of, given_copies, is_personal}
+use Rattle.config_text.specs.Settings.{given_person, is_remote_byte, is_remote_name, place_of}
+use Rattle.config_text.specs.Settings.{remote_of, remotes_under, remotes_in, remotes_of}
+use Rattle.config_text.specs.Repository.{PlainConfig, plain_config, is_other, config_of}
+use Rattle.config_text.specs.Repository.{config_read, config_in, remote_text, annex_text, user_text}
+use Rattle.config_text.specs.Repository.{repo_printed}
+use Rattle.config_text.specs.Laws.{IsPrintable, IsUuid, IsPlainRemote, IsPlainRest}
+use Rattle.config_text.specs.Laws.{IsPrintableConfig, ConfigIsRead}
 use Rattle.config_text.proofs.Configs.{config_made}
 use Rattle.config_text.proofs.Given.{numerals, copies_are, place_read}
 use Rattle.config_text.proofs.LinesOf.{Lacks}

@@ -12,9 +12,12 @@ use Rattle.std.proofs.lemmas.Str.{IsUtf8-append, IsUtf8-nil, is_utf8-from_IsUtf8
 use Rattle.std.proofs.Math.Seq.{get_or-append_seam, take-append_seam}
 use Rattle.config_text.specs.declared.lines.Line.TheVariants.{Nothing, Head, Pair}
 use Rattle.config_text.specs.declared.sections.Entry.{Entry}
-use Rattle.config_text.specs.Values.{quote, backslash, is_blank, is_comment, without_end_blanks, trimmed, joined, printed_value}
+use Rattle.config_text.specs.Values.{quote, backslash, is_blank, is_comment, without_end_blanks}
+use Rattle.config_text.specs.Values.{trimmed, joined, printed_value}
 use Rattle.config_text.specs.Sections.{sub_byte, sub_escaped, heading, printed_entry}
-use Rattle.config_text.specs.Lines.{lower, is_key_byte, is_name_byte, is_name, is_key, added_to_sub, sub_spelled, sub_of, cut_at, headed, head_at, head_of, paired, pair_at, pair_in, said, line_of, content}
+use Rattle.config_text.specs.Lines.{lower, is_key_byte, is_name_byte, is_name, is_key, added_to_sub}
+use Rattle.config_text.specs.Lines.{sub_spelled, sub_of, cut_at, headed, head_at, head_of, paired}
+use Rattle.config_text.specs.Lines.{pair_at, pair_in, said, line_of, content}
 use Rattle.config_text.specs.Reading.{contents}
 use Rattle.config_text.specs.Laws.{IsPlainEntry, IsPlainSub}
 use Rattle.config_text.proofs.LinesOf.{Lacks, lacks-append, line_then, content_line, without_end_push}

@@ -5,7 +5,8 @@ use Rattle.std.specs.List.{AllByRecursion, flat_map}
 use Rattle.config_text.specs.declared.lines.Line.{Line}
 use Rattle.config_text.specs.declared.sections.Entry.{Entry}
 use Rattle.config_text.specs.Lines.{lower, is_name}
-use Rattle.config_text.specs.Sections.{PlainSection, section_text, heading, printed_entry, pair_of, appended}
+use Rattle.config_text.specs.Sections.{PlainSection, section_text, heading, printed_entry, pair_of}
+use Rattle.config_text.specs.Sections.{appended}
 use Rattle.config_text.specs.Reading.{with_line, or_bad, read_on, contents, sections_of}
 use Rattle.config_text.specs.Laws.{IsPlainEntry, IsPlainSub, IsPrintable, PrintedIsRead, ReadsMore}
 use Rattle.config_text.proofs.LinesOf.{read_on-append, contents-appended, more_entry, last_more}

@@ -11,7 +11,11 @@ use Rattle.std.proofs.lemmas.Str.{IsUtf8-append, IsUtf8-nil}
 use Rattle.config_text.proofs.LinesOf.{Lacks, lacks-append}
 use Rattle.config_text.proofs.Utf8.{ascii_then, utf8_flat}
 use Rattle.config_text.specs.declared.values.Quoting.{Quoting}
-use Rattle.config_text.specs.Values.{quote, backslash, is_blank, has_blank_end, is_special, needs_quotes, escape_of, escaped_as, escaped_byte, escaped, printed_value, is_comment, without_end_blanks, trimmed, outside, after_byte, unescaped, added, joined, spelled, before_comment, value_of}
+use Rattle.config_text.specs.Values.{quote, backslash, is_blank, has_blank_end, is_special}
+use Rattle.config_text.specs.Values.{needs_quotes, escape_of, escaped_as, escaped_byte, escaped}
+use Rattle.config_text.specs.Values.{printed_value, is_comment, without_end_blanks, trimmed}
+use Rattle.config_text.specs.Values.{outside, after_byte, unescaped, added, joined, spelled}
+use Rattle.config_text.specs.Values.{before_comment, value_of}
 
 abbrev inside : Quoting
 inside = record { quoted = true; escaped = false }

@@ -2,7 +2,10 @@
 use Rattle.std.proofs.Common.{◌≡◌, ℕ, List, [], ◌∷◌, Some, Ok, Err, replicate, refl, codes}
 use Rattle.config_text.proofs.OnLiterals.{texts_on_literals, reading_on_literals, uuids_on_literals}
 use Rattle.config_text.specs.Values.{printed_value}
-use Rattle.config_text.specs.Texts.{printed_section, repo_text, made, sections_of, config_in}
+use Rattle.config_text.specs.Sections.{printed_section}
+use Rattle.config_text.specs.Repository.{repo_text, config_in}
+use Rattle.config_text.specs.Uuids.{made}
+use Rattle.config_text.specs.Reading.{sections_of}
 use Rattle.config_text.specs.declared.uuids.Role.TheVariants.{Dataset, Repository}
 
 -- 01234567-89ab-5cde-8f01-23456789abcd

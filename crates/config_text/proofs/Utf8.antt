@@ -14,8 +14,12 @@ use Rattle.std.proofs.lemmas.Bool.Decides.{nat_tests}
 use Rattle.std.proofs.lemmas.Str.{IsUtf8-append, IsUtf8-nil, IsUtf8-encode, IsUtf8-take, IsUtf8-drop, encode_ascii, inside_one, IsCharBoundary-after_ascii, IsCharBoundary-before_ascii, IsCharBoundary-end, is_utf8-from_IsUtf8, IsUtf8-from_is_utf8}
 use lib.Utf8.{scalars, encode, encodes, low_scalar}
 use Rattle.config_text.specs.declared.values.Quoting.{Quoting}
-use Rattle.config_text.specs.Values.{quote, backslash, is_blank, is_comment, joined, spelled_by, spelled, added, after_byte, unescaped, is_outside, outside, before_comment, without_front_blanks, without_end_blanks, trimmed}
-use Rattle.config_text.specs.Lines.{lower, is_key_byte, is_name_byte, is_name, is_key, added_to_sub, sub_spelled, without_end, cut_at}
+use Rattle.config_text.specs.Values.{quote, backslash, is_blank, is_comment, joined, spelled_by}
+use Rattle.config_text.specs.Values.{spelled, added, after_byte, unescaped, is_outside, outside}
+use Rattle.config_text.specs.Values.{before_comment, without_front_blanks, without_end_blanks}
+use Rattle.config_text.specs.Values.{trimmed}
+use Rattle.config_text.specs.Lines.{lower, is_key_byte, is_name_byte, is_name, is_key, added_to_sub}
+use Rattle.config_text.specs.Lines.{sub_spelled, without_end, cut_at}
 
 -- ---- ASCII
 pub ascii_then : (x : ℕ) (xs : List ℕ) → x < 128 → IsUtf8 xs → IsUtf8 (x ∷ xs)

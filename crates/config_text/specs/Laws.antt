@@ -1,8 +1,9 @@
 -- What is printed, and read back.
-use Rattle.std.specs.Prelude.{◌≡◌, ◌==◌, ◌-◌, ◌<◌, ◌&&◌, Bool, not, true, false, ℕ, List, [], ◌∷◌, ◌++◌, map, length, slice_index, Ok, IfSome}
+use Rattle.std.specs.Prelude.{◌≡◌, ◌==◌, ◌-◌, ◌<◌, ◌&&◌, Bool, not, true, false, ℕ, List, [], ◌∷◌}
+use Rattle.std.specs.Prelude.{◌++◌, map, length, slice_index, Ok, IfSome}
 use Rattle.std.specs.List.{All, AllByRecursion, flat_map, list_any}
 use Rattle.std.specs.Str.{is_utf8}
-use Rattle.places.specs.Names.{IsPlace, text_of}
+use Rattle.places.specs.All.{IsPlace, text_of}
 use Rattle.config_text.specs.declared.repository.Remote.{Remote}
 use Rattle.config_text.specs.declared.repository.RepoConfig.{RepoConfig}
 use Rattle.config_text.specs.declared.sections.Entry.{Entry}

@@ -1,10 +1,10 @@
+pub mod All
 pub mod Laws
-pub mod Lookups
 pub mod Lines
+pub mod Lookups
 pub mod Reading
 pub mod Repository
 pub mod Sections
 pub mod Settings
-pub mod Texts
 pub mod Uuids
 pub mod Values

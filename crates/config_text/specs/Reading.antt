@@ -1,5 +1,6 @@
 -- The sections that a text has, line by line.
-use Rattle.std.specs.Prelude.{◌≡◌, ℕ, ◌+◌, Bool, true, false, List, [], ◌∷◌, ◌++◌, map, Option, Some, None, MatchOption, option_map, Result, Ok, Err}
+use Rattle.std.specs.Prelude.{◌≡◌, ℕ, ◌+◌, Bool, true, false, List, [], ◌∷◌, ◌++◌, map, Option}
+use Rattle.std.specs.Prelude.{Some, None, MatchOption, option_map, Result, Ok, Err}
 use Rattle.config_text.specs.declared.errors.ConfErr.{ConfErr}
 use Rattle.config_text.specs.declared.errors.ConfErr.TheVariants.{BadLine, NoMemory}
 use Rattle.config_text.specs.declared.lines.Line.{Line}

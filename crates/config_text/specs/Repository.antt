@@ -1,8 +1,9 @@
 -- `.dlrepo/config`.
-use Rattle.std.specs.Prelude.{ℕ, Bool, not, ◌&&◌, List, [], ◌∷◌, ◌++◌, map, Option, Some, None, option_and_then, is_some, Result, Ok, Err, codes}
+use Rattle.std.specs.Prelude.{ℕ, Bool, not, ◌&&◌, List, [], ◌∷◌, ◌++◌, map, Option, Some, None}
+use Rattle.std.specs.Prelude.{option_and_then, is_some, Result, Ok, Err, codes}
 use Rattle.std.specs.Fmt.{decimal}
 use Rattle.std.specs.List.{filter, flat_map}
-use Rattle.places.specs.Names.{text_of}
+use Rattle.places.specs.All.{text_of}
 use Rattle.config_text.specs.declared.repository.Remote.{Remote}
 use Rattle.config_text.specs.declared.repository.RepoConfig.{RepoConfig}
 use Rattle.config_text.specs.declared.sections.Section.{Section}

@@ -1,5 +1,6 @@
 -- A section: its heading, and a line for each entry.
-use Rattle.std.specs.Prelude.{ℕ, ◌-◌, Bool, not, ◌&&◌, ◌||◌, ◌==◌, if◌then◌else◌, List, [], ◌∷◌, ◌++◌, Option, Some, None, map, codes, length, slice_index}
+use Rattle.std.specs.Prelude.{ℕ, ◌-◌, Bool, not, ◌&&◌, ◌||◌, ◌==◌, if◌then◌else◌, List, [], ◌∷◌}
+use Rattle.std.specs.Prelude.{◌++◌, Option, Some, None, map, codes, length, slice_index}
 use Rattle.std.specs.List.{flat_map}
 use Rattle.config_text.specs.declared.sections.Entry.{Entry}
 use Rattle.config_text.specs.declared.sections.Section.{Section}
@@ -49,12 +50,12 @@ abbrev pub plain : Section → PlainSection
 plain s = record { name = s.name; sub = s.sub; entries = s.entries.items }
 
 -- The last line has no newline.
-abbrev pub is_open : List ℕ → Bool
-is_open text = not (length text == 0) && not (slice_index text (length text - 1) == 10)
+abbrev pub is_unended : List ℕ → Bool
+is_unended text = not (length text == 0) && not (slice_index text (length text - 1) == 10)
 
 -- A newline where the last line has none.
 abbrev pub closed : List ℕ → List ℕ
-closed text = if is_open text then text ++ 10 ∷ [] else text
+closed text = if is_unended text then text ++ 10 ∷ [] else text
 
 -- A text and more lines.
 abbrev pub appended : List ℕ → List ℕ → List ℕ

@@ -1,9 +1,11 @@
 -- What the values of a repository's configuration are, and which are none.
-use Rattle.std.specs.Prelude.{ℕ, Bool, not, ◌&&◌, ◌||◌, ◌==◌, if◌then◌else◌, List, [], ◌∷◌, Option, Some, None, option_map, option_and_then, codes, length, slice_index, nat_lt, nat_le}
+use Rattle.std.specs.Prelude.{ℕ, Bool, not, ◌&&◌, ◌||◌, ◌==◌, if◌then◌else◌, List, [], ◌∷◌, Option}
+use Rattle.std.specs.Prelude.{Some, None, option_map, option_and_then, codes, length, slice_index}
+use Rattle.std.specs.Prelude.{nat_lt, nat_le}
 use Rattle.std.specs.Char.{is_ascii_alphanumeric, is_ascii_control, is_ascii_digit}
 use Rattle.std.specs.List.{list_all}
 use Rattle.std.specs.Str.Parse.{digits_value}
-use Rattle.places.specs.Names.{is_text, names_of}
+use Rattle.places.specs.All.{is_text, names_of}
 use Rattle.config_text.specs.declared.repository.Remote.{Remote}
 use Rattle.config_text.specs.declared.sections.Entry.{Entry}
 use Rattle.config_text.specs.Sections.{PlainSection}

@@ -5,7 +5,7 @@ use Rattle.uuid.specs.Text.{hyphenated_text, lower}
 use Rattle.uuid.specs.Parts.{with_version, with_variant}
 use Rattle.uuid.specs.declared.Variant.TheVariants.{RFC4122}
 use Rattle.uuid.specs.declared.Version.TheVariants.{Random, Sha1}
-use Rattle.places.specs.Names.{text_of}
+use Rattle.places.specs.All.{text_of}
 use Rattle.config_text.specs.declared.uuids.Role.{Role}
 use Rattle.config_text.specs.declared.uuids.Role.TheVariants.{Dataset, Repository}
 

@@ -1,5 +1,7 @@
 -- A value: how it is printed, as it is or in double quotes with escapes, and how it is read.
-use Rattle.std.specs.Prelude.{◌≡◌, ℕ, ◌-◌, Bool, false, true, not, ◌&&◌, ◌||◌, ◌==◌, if◌then◌else◌, List, [], ◌∷◌, ◌++◌, Option, Some, None, MatchOption, option_map, length, slice_index, take, drop}
+use Rattle.std.specs.Prelude.{◌≡◌, ℕ, ◌-◌, Bool, false, true, not, ◌&&◌, ◌||◌, ◌==◌, if◌then◌else◌}
+use Rattle.std.specs.Prelude.{List, [], ◌∷◌, ◌++◌, Option, Some, None, MatchOption, option_map}
+use Rattle.std.specs.Prelude.{length, slice_index, take, drop}
 use Rattle.std.specs.List.{flat_map, list_any, prefix_len, suffix_len}
 use Rattle.config_text.specs.declared.values.Quoting.{Quoting}
 

@@ -1,7 +1,8 @@
 // What a dataset's configurations say: its id, and its subdatasets.
 ghost use Rattle.std.specs.Prelude.{◌≡◌, map, IfOk, MatchResult};
 ghost use Rattle.config_text.specs.Sections.{plain};
-ghost use Rattle.config_text.specs.Lookups.{last_found, uuid_of, entry_id, is_dataset, section_id, dataset_id_of, submodule_of, submodules_of};
+ghost use Rattle.config_text.specs.Lookups.{last_found, uuid_of, entry_id, is_dataset, section_id, dataset_id_of};
+ghost use Rattle.config_text.specs.Lookups.{submodule_of, submodules_of};
 ghost use Rattle.config_text.specs.declared.errors.ConfErr.TheVariants.{NoMemory};
 
 use crate::errors::ConfErr;

@@ -1,9 +1,12 @@
 // One line of a configuration: nothing, the head of a section, or a key with its value.
-ghost use Rattle.std.specs.Prelude.{◌≡◌, ◌≤◌, ◌<◌, ◌+◌, ◌++◌, ◌∷◌, true, false, length, IfOk, MatchOption, option_copied, option_map, ◌==◌};
+ghost use Rattle.std.specs.Prelude.{◌≡◌, ◌≤◌, ◌<◌, ◌+◌, ◌++◌, ◌∷◌, true, false, length, IfOk, MatchOption};
+ghost use Rattle.std.specs.Prelude.{option_copied, option_map, ◌==◌};
 ghost use Rattle.std.specs.List.{list_all, position};
 ghost use Rattle.std.specs.Str.{is_utf8};
 ghost use Rattle.config_text.specs.Values.{Adds};
-ghost use Rattle.config_text.specs.Lines.{lines_of, without_end, content, lower, cut_at, headed, paired, is_key_byte, is_name_byte, is_name, is_key, added_to_sub, sub_spelled, sub_of, head_at, head_of, pair_at, pair_in, said, line_of};
+ghost use Rattle.config_text.specs.Lines.{lines_of, without_end, content, lower, cut_at, headed, paired, is_key_byte};
+ghost use Rattle.config_text.specs.Lines.{is_name_byte, is_name, is_key, added_to_sub, sub_spelled, sub_of, head_at};
+ghost use Rattle.config_text.specs.Lines.{head_of, pair_at, pair_in, said, line_of};
 
 use crate::sections::Entry;
 use crate::values::{is_comment, read_value, text_of, trimmed};

@@ -47,7 +47,8 @@ impl Remote {
 }
 
 impl RepoConfig {
-    ghost use Rattle.config_text.specs.Repository.{plain_config, config_of, config_in, annex_text, user_text, remote_text, repo_printed};
+    ghost use Rattle.config_text.specs.Repository.{plain_config, config_of, config_in, annex_text, user_text};
+    ghost use Rattle.config_text.specs.Repository.{remote_text, repo_printed};
 
     /// The configuration in a `.dlrepo/config`. A value that is missing or malformed is bad at line 0.
     #[tactic(auto, unfolding(crate::specs::Repository::config_in))]

@@ -3,7 +3,8 @@ ghost use Rattle.std.specs.Prelude.{◌≡◌, ◌++◌, map, option_copied, IfO
 ghost use Rattle.std.specs.List.{flat_map};
 ghost use Rattle.config_text.specs.Laws.{ReadsMore};
 ghost use Rattle.config_text.specs.Lookups.{is_alone, sub_under, value_in};
-ghost use Rattle.config_text.specs.Sections.{plain, sub_byte, sub_escaped, heading, printed_entry, pair_of, printed_of, printed, is_open, appended};
+ghost use Rattle.config_text.specs.Sections.{plain, sub_byte, sub_escaped, heading, printed_entry, pair_of, printed_of};
+ghost use Rattle.config_text.specs.Sections.{printed, is_unended, appended};
 ghost use Rattle.config_text.specs.declared.errors.ConfErr.TheVariants.{NoMemory};
 
 use crate::errors::ConfErr;
@@ -73,8 +74,8 @@ pub fn print(alloc: Global, list: &[Section]) -> Result<Vec<u8>, ConfErr>
 }
 
 // Whether a line is left without its newline.
-fn is_open(text: &[u8]) -> bool
-    ensures { result ≡ is_open text.now }
+fn is_unended(text: &[u8]) -> bool
+    ensures { result ≡ is_unended text.now }
 {
     !text.is_empty() && text[text.len() - 1] != b'\n'
 }
@@ -84,7 +85,7 @@ fn append_to(text: &mut Vec<u8>, old: &[u8], section: &Section) -> Result<(), Al
         ≡ text.old.items ++ appended old.now (printed_of section.now)) }
 {
     text.extend_from_slice(old)?;
-    if is_open(old) {
+    if is_unended(old) {
         text.extend_from_slice(b"\n")?;
     }
     append_printed(text, section)

@@ -1,12 +1,15 @@
 // The values of a repository's configuration, and the remotes.
-ghost use Rattle.std.specs.Prelude.{◌≡◌, ◌++◌, true, false, map, None, MatchOption, option_copied, option_map, option_and_then, IfOk, codes};
+ghost use Rattle.std.specs.Prelude.{◌≡◌, ◌++◌, true, false, map, None, MatchOption, option_copied, option_map};
+ghost use Rattle.std.specs.Prelude.{option_and_then, IfOk, codes};
 ghost use Rattle.std.specs.List.{filter, list_all};
 ghost use Rattle.std.specs.Char.{is_ascii_digit};
 ghost use Rattle.config_text.specs.Sections.{plain};
 ghost use Rattle.config_text.specs.Values.{Adds};
 ghost use Rattle.config_text.specs.Lookups.{value_alone, uuid_of};
 ghost use Rattle.config_text.specs.Repository.{is_other};
-ghost use Rattle.config_text.specs.Settings.{is_number, is_count, copies_of, given_copies, is_personal_byte, is_personal, given_person, is_remote_byte, is_remote_name, place_of, remote_of, remotes_in, remotes_of};
+ghost use Rattle.config_text.specs.Settings.{is_number, is_count, copies_of, given_copies, is_personal_byte};
+ghost use Rattle.config_text.specs.Settings.{is_personal, given_person, is_remote_byte, is_remote_name, place_of};
+ghost use Rattle.config_text.specs.Settings.{remote_of, remotes_in, remotes_of};
 
 use crate::datasets::{copied, read_uuid};
 use crate::repository::Remote;

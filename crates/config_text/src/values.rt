@@ -1,9 +1,13 @@
 // Values: as they are where a reader gives them back so, and else in double quotes with escapes.
-ghost use Rattle.std.specs.Prelude.{◌≡◌, ◌<◌, ◌≤◌, ◌++◌, true, false, length, take, IfOk, OnOk, MatchOption, option_map};
+ghost use Rattle.std.specs.Prelude.{◌≡◌, ◌<◌, ◌≤◌, ◌++◌, true, false, length, take, IfOk, OnOk, MatchOption};
+ghost use Rattle.std.specs.Prelude.{option_map};
 ghost use Rattle.std.specs.List.{list_any};
 ghost use Rattle.std.specs.Str.{is_utf8};
-ghost use Rattle.config_text.specs.Values.{is_blank, has_blank_end, is_special, needs_quotes, escape_of, escaped_byte, escaped, printed_value};
-ghost use Rattle.config_text.specs.Values.{is_comment, without_front_blanks, without_end_blanks, trimmed, outside, is_outside, after_byte, unescaped, added, Adds, spelled, before_comment, value_of};
+ghost use Rattle.config_text.specs.Values.{is_blank, has_blank_end, is_special, needs_quotes, escape_of, escaped_byte};
+ghost use Rattle.config_text.specs.Values.{escaped, printed_value};
+ghost use Rattle.config_text.specs.Values.{is_comment, without_front_blanks, without_end_blanks, trimmed, outside};
+ghost use Rattle.config_text.specs.Values.{is_outside, after_byte, unescaped, added, Adds, spelled, before_comment};
+ghost use Rattle.config_text.specs.Values.{value_of};
 
 use places::Text;
 use std::alloc::{AllocError, Global};

@@ -2,8 +2,7 @@
 use Rattle.std.specs.Prelude.{◌≡◌, ◌↔◌, ℕ, ◌*◌, ◌+◌, ◌^◌, ◌≤◌, ◌<◌, List}
 use Rattle.std.specs.declared.io.ErrorKind.{ErrorKind}
 use Rattle.std.specs.declared.io.ErrorKind.TheVariants.{OutOfMemory}
-use Rattle.datalad_cli.specs.Answer.{device_text, memory_text}
-use Rattle.datalad_cli.specs.Codes.{code_of}
+use Rattle.datalad_cli.specs.All.{device_text, memory_text, code_of}
 use Rattle.datalad_cli.specs.declared.status.Status.{Status}
 use Rattle.datalad_cli.specs.declared.status.Status.TheVariants.{Device, NoMemory}
 use Rattle.datalad.specs.declared.start.Failure.{Failure}

@@ -1,7 +1,7 @@
 // What a call begins with: words, working directory, clock and random bytes, or why the host gave none.
 ghost use Rattle.std.specs.Prelude.{◌≡◌, drop, IfOk, IfErr};
 ghost use Rattle.std.specs.Time.{system_time_nanos};
-ghost use Rattle.places.specs.Names.{IsText, IsPlace, text_of};
+ghost use Rattle.places.specs.All.{IsText, IsPlace, text_of};
 ghost use Rattle.datalad.specs.Starts.{IsSeconds};
 ghost use Rattle.datalad.specs.declared.start.Failure.TheVariants.{Host};
 
@@ -53,7 +53,7 @@ impl From<io::Error> for Failure {
 }
 
 impl Failure {
-    ghost use Rattle.datalad_cli.specs.Codes.{code_of};
+    ghost use Rattle.datalad_cli.specs.All.{code_of};
     ghost use Rattle.datalad.specs.Starts.{ending, ending_text};
 
     /// The exit status.

@@ -1,23 +1,25 @@
 -- A command's act, printed.
 use Rattle.std.proofs.Common.{◌≡◌, inl, inr, ℕ, Bool, IsTrue, List, [], ◌∷◌, ◌++◌, Result, Ok, Err, refl, sym, ◌∙◌, ap, subst, arith, length-append}
 use Rattle.std.proofs.lemmas.List.{take-append-le}
-use Rattle.file_store.specs.Disk.{Drive}
-use Rattle.file_store.specs.Ends.{present}
-use Rattle.file_store.specs.Tape.{Tape}
-use Rattle.faults.specs.Texts.{fault_text}
+use Rattle.file_store.specs.All.{Drive, present, Tape}
+use Rattle.faults.specs.All.{fault_text}
 use Rattle.faults.specs.declared.lines.Line.{Line}
 use Rattle.faults.specs.declared.faults.Fault.{Fault}
 use Rattle.faults.specs.declared.faults.Trouble.{Trouble}
-use Rattle.faults.specs.declared.faults.Trouble.TheVariants.{Refused as RefusedBy, Device as ByDevice, NoMemory as ByMemory}
-use Rattle.acts.specs.Acts.{Act, Ending, Gives, Refuses, Breaks, Step}
-use Rattle.acts.specs.Ends.{Acts, Reaches, HasCome, EndsRefused, EndsAs, HasCause}
+use Rattle.faults.specs.declared.faults.Trouble.TheVariants.{Refused as RefusedBy}
+use Rattle.faults.specs.declared.faults.Trouble.TheVariants.{Device as ByDevice}
+use Rattle.faults.specs.declared.faults.Trouble.TheVariants.{NoMemory as ByMemory}
+use Rattle.acts.specs.All.{Act, Ending, Gives, Refuses, Breaks, Step, Acts, Reaches, HasCome}
+use Rattle.acts.specs.All.{EndsRefused, EndsAs, HasCause}
 use Rattle.datalad_cli.specs.Answer.{lines_text}
 use Rattle.datalad_cli.specs.Commands.{Command, MayAnswer}
 use Rattle.datalad_cli.specs.Decides.{HasFault, MayEnd, CommandSays}
-use Rattle.datalad_cli.specs.Reports.{Failure, Heard, Tapes, Says, SaysPart, TookPart, ReportEnds, of_device, of_memory, outcome_text}
+use Rattle.datalad_cli.specs.Reports.{Failure, Heard, Tapes, Says, SaysPart, TookPart, ReportEnds}
+use Rattle.datalad_cli.specs.Reports.{of_device, of_memory, outcome_text}
 use Rattle.datalad_cli.specs.Ends.{World, Telling, ending_text, WasCutOff, StatusEnds}
 use Rattle.datalad_cli.specs.declared.status.Status.{Status}
-use Rattle.datalad_cli.specs.declared.status.Status.TheVariants.{Done, Refused, Usage, NoMemory, Device, CommandFailed}
+use Rattle.datalad_cli.specs.declared.status.Status.TheVariants.{Done, Refused, Usage, NoMemory}
+use Rattle.datalad_cli.specs.declared.status.Status.TheVariants.{Device, CommandFailed}
 
 none_more : (old new : Tape) (b : List ℕ) → TookPart old new [] → TookPart old new b
 none_more old new b took = (

@@ -1,17 +1,14 @@
 -- What a command leaves at every moment, from its act.
 use Rattle.std.proofs.Common.{◌≡◌, ◌⊎◌, inl, inr, ⊎_elim, ℕ, Bool, true, false, ◌||◌, List, [], ◌++◌, Option, Some, None, refl, ap, subst, append-nil}
-use Rattle.places.specs.Names.{Names, has_name}
-use Rattle.places.specs.Ground.{Ground, file_at}
-use Rattle.file_store.specs.Disk.{Drive}
-use Rattle.file_store.specs.Ends.{present}
-use Rattle.file_store.specs.Course.{IsAlong, WasOpen, Goes as GoesAlong}
+use Rattle.places.specs.All.{Names, has_name, Ground, file_at}
+use Rattle.file_store.specs.All.{Drive, present, IsAlong, WasOpen, GoesAlong}
 use Rattle.file_store.proofs.Moments.{weaken}
 use Rattle.file_store.proofs.Consequences.{now_along, image_along, each_place, never}
 use Rattle.git_objects.specs.declared.ids.Id.{Id}
-use Rattle.repository.specs.Layout.{dlrepo}
-use Rattle.acts.specs.Acts.{Act, Event, Ending, Gives, Refuses, Breaks, Step, rounds_of, rounds_in, last_of, still, none_loose, gives, refuses, follow, go_on, bind}
-use Rattle.acts.specs.Ends.{IsFirm, Moments}
-use Rattle.acts.specs.Remains.{Nothing, IsSame}
+use Rattle.repository.specs.All.{dlrepo}
+use Rattle.acts.specs.All.{Act, Event, Ending, Gives, Refuses, Breaks, Step, rounds_of, rounds_in}
+use Rattle.acts.specs.All.{last_of, still, none_loose, gives, refuses, follow, go_on, bind, IsFirm}
+use Rattle.acts.specs.All.{Moments, Nothing, IsSame}
 use Rattle.acts.proofs.Along.{wider_goes}
 use Rattle.recursive_save.specs.All.{new_dataset, create_step}
 use Rattle.recursive_save.proofs.Consequences.{every_moment}

@@ -3,9 +3,9 @@ use Rattle.std.proofs.Common.{◌≡◌, ◌<◌, ◌≤◌, ℕ, Bool, true, fa
 use Rattle.std.specs.Prelude.{nat_le}
 use Rattle.std.proofs.lemmas.Bool.Decides.{nat_tests}
 use Rattle.std.specs.List.{list_all}
-use Rattle.places.specs.Names.{Names, IsPlace, is_name, text_of, longest, target, has_name}
+use Rattle.places.specs.All.{Names, IsPlace, is_name, text_of, longest, target, has_name}
 use Rattle.places.proofs.Texts.{and_both, all_names, names_all}
-use Rattle.repository.specs.Layout.{dlrepo}
+use Rattle.repository.specs.All.{dlrepo}
 use Rattle.datalad_cli.specs.Words.{is_place, may_be_made, leads}
 
 short : (n : ℕ) → n ≤ longest → nat_le n longest ≡ true

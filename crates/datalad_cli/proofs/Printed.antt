@@ -1,7 +1,7 @@
 -- What a sink took of a text.
 use Rattle.std.proofs.Common.{ℕ, Bool, List, Result, Ok, Err, inl, inr}
 use Rattle.std.specs.Prelude.{IsTrue}
-use Rattle.file_store.specs.Tape.{Tape, WholeEnds}
+use Rattle.file_store.specs.All.{Tape, WholeEnds}
 use Rattle.file_store.specs.declared.errors.SinkErr.{SinkErr}
 use Rattle.file_store.specs.declared.errors.SinkErr.TheVariants.{Failed, NoMemory}
 use Rattle.datalad_cli.specs.Reports.{TookText}

@@ -1,8 +1,8 @@
 -- A root of words has no component `.dlrepo`.
 use Rattle.std.proofs.Common.{◌≡◌, ℕ, Bool, true, false, not, if◌then◌else◌, List, [], ◌∷◌, Some, None, refl, subst}
-use Rattle.places.specs.Names.{Names, has_name, target}
+use Rattle.places.specs.All.{Names, has_name, target}
 use Rattle.places.proofs.Texts.{and_both, not_true}
-use Rattle.repository.specs.Layout.{dlrepo}
+use Rattle.repository.specs.All.{dlrepo}
 use Rattle.datalad_cli.specs.Words.{is_place, may_be_made, leads}
 
 made_clear : (p : Names) → may_be_made p ≡ true → has_name dlrepo p ≡ false

@@ -1,8 +1,8 @@
 -- A call of the program, and the texts that commands share.
 use Rattle.std.specs.Prelude.{ℕ, List, ◌++◌, codes, decimal}
 use Rattle.std.specs.List.{flat_map}
-use Rattle.places.specs.Names.{Names}
-use Rattle.faults.specs.Lines.{line_text}
+use Rattle.places.specs.All.{Names}
+use Rattle.faults.specs.All.{line_text}
 use Rattle.faults.specs.declared.lines.Line.{Line}
 
 -- The words of a call, its working directory, the seconds of the clock and 16 random bytes.

@@ -1,7 +1,8 @@
 -- The exit status of each ending.
 use Rattle.std.specs.Prelude.{ℕ}
 use Rattle.datalad_cli.specs.declared.status.Status.{Status}
-use Rattle.datalad_cli.specs.declared.status.Status.TheVariants.{Done, Refused, Usage, NoMemory, Device, CommandFailed}
+use Rattle.datalad_cli.specs.declared.status.Status.TheVariants.{Done, Refused, Usage, NoMemory}
+use Rattle.datalad_cli.specs.declared.status.Status.TheVariants.{Device, CommandFailed}
 
 -- The exit status, as a number.
 abbrev pub code_of : Status → ℕ

@@ -1,15 +1,14 @@
 -- The commands: what each one does, which faults it may answer, what it says, and what it leaves at
 -- every moment. A command is added by a case of each definition.
 use Rattle.std.specs.Prelude.{◌≡◌, ◌⊎◌, ℕ, Bool, List, [], ◌∷◌, Option, Some, None, Result, Ok, Err}
-use Rattle.places.specs.Names.{Names}
-use Rattle.places.specs.Ground.{Ground}
+use Rattle.places.specs.All.{Names, Ground}
 use Rattle.faults.specs.declared.lines.Line.{Line}
 use Rattle.faults.specs.declared.faults.Fault.{Fault}
-use Rattle.faults.specs.declared.faults.Fault.TheVariants.{BadPath}
 use Rattle.faults.specs.declared.faults.Trouble.{Trouble}
-use Rattle.acts.specs.Acts.{Step, gives, refuses, bind}
-use Rattle.acts.specs.Remains.{IsSame}
-use Rattle.recursive_save.specs.All.{new_dataset, MayCreate, created_line, create_step, CreateRemains}
+use Rattle.faults.specs.declared.faults.Fault.TheVariants.{BadPath}
+use Rattle.acts.specs.All.{Step, gives, refuses, bind, IsSame}
+use Rattle.recursive_save.specs.All.{new_dataset, MayCreate, created_line, create_step}
+use Rattle.recursive_save.specs.All.{CreateRemains}
 use Rattle.datalad_cli.specs.Answer.{Call}
 use Rattle.datalad_cli.specs.Words.{misread, dir_word, leads}
 

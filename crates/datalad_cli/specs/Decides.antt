@@ -1,16 +1,19 @@
 -- What the words of a call alone decide, whatever the files tell.
 use Rattle.std.specs.Prelude.{ℕ, Bool, List, [], Result, Ok, Err}
-use Rattle.faults.specs.Texts.{fault_text}
+use Rattle.faults.specs.All.{fault_text}
 use Rattle.faults.specs.declared.lines.Line.{Line}
 use Rattle.faults.specs.declared.faults.Fault.{Fault}
 use Rattle.faults.specs.declared.faults.Trouble.{Trouble}
-use Rattle.faults.specs.declared.faults.Trouble.TheVariants.{Refused as RefusedBy, Device as ByDevice, NoMemory as ByMemory}
+use Rattle.faults.specs.declared.faults.Trouble.TheVariants.{Refused as RefusedBy}
+use Rattle.faults.specs.declared.faults.Trouble.TheVariants.{Device as ByDevice}
+use Rattle.faults.specs.declared.faults.Trouble.TheVariants.{NoMemory as ByMemory}
 use Rattle.datalad_cli.specs.Answer.{lines_text}
 use Rattle.datalad_cli.specs.Commands.{Command, MayAnswer, MaySay, Reading, Misread, Asks}
 use Rattle.datalad_cli.specs.Ends.{Telling, World}
 use Rattle.datalad_cli.specs.Reports.{Failure, Says, SaysPart, of_device, of_memory, outcome_text}
 use Rattle.datalad_cli.specs.declared.status.Status.{Status}
-use Rattle.datalad_cli.specs.declared.status.Status.TheVariants.{Done, Refused, Usage, NoMemory, Device, CommandFailed}
+use Rattle.datalad_cli.specs.declared.status.Status.TheVariants.{Done, Refused, Usage, NoMemory}
+use Rattle.datalad_cli.specs.declared.status.Status.TheVariants.{Device, CommandFailed}
 
 -- A fault of an outcome is one that the command may answer.
 abbrev pub HasFault : Bool → Command → Result (Unit {0}) Trouble → Type 0
@@ -51,7 +54,7 @@ CommandSays telling command old new (Usage at) = ⊥
 CommandSays telling command old new (CommandFailed got) = ⊥
 
 -- Whatever the files tell, the texts and the fault of a call are among those that its command may
--- have. (Of words without a reading all is said already.).
+-- have. Of words without a reading all is said already.
 abbrev pub WordsDecide : Telling → Reading → World → World → Status → Type 0
 WordsDecide telling (Misread at) old new status = Unit {0}
 WordsDecide telling (Asks command) old new status = CommandSays telling command old new status

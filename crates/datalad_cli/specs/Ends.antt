@@ -1,20 +1,18 @@
 -- How a call of the program ends.
 use Rattle.std.specs.Prelude.{◌≡◌, ◌⊎◌, ℕ, Bool, IsTrue, List, [], ◌++◌}
-use Rattle.file_store.specs.Causes.{Rose}
-use Rattle.places.specs.Ground.{Ground}
-use Rattle.file_store.specs.Disk.{Drive, Since, IsImage}
-use Rattle.file_store.specs.Course.{LiesAlong, WasOpen, finally}
-use Rattle.file_store.specs.Tape.{Tape}
-use Rattle.file_store.specs.Ends.{present}
-use Rattle.faults.specs.Texts.{fault_text}
-use Rattle.acts.specs.Acts.{Act, Event, Ending, Gives, Refuses, Breaks, rounds_of, lines_of, lines_in}
-use Rattle.acts.specs.Ends.{IsFirm, Reaches, EndsRefused, Moments}
-use Rattle.acts.specs.Remains.{Nothing}
+use Rattle.file_store.specs.All.{Rose, Drive, Since, IsImage, LiesAlong, WasOpen, finally, Tape}
+use Rattle.file_store.specs.All.{present}
+use Rattle.places.specs.All.{Ground}
+use Rattle.faults.specs.All.{fault_text}
+use Rattle.acts.specs.All.{Act, Event, Ending, Gives, Refuses, Breaks, rounds_of, lines_of}
+use Rattle.acts.specs.All.{lines_in, IsFirm, Reaches, EndsRefused, Moments, Nothing}
 use Rattle.datalad_cli.specs.Answer.{lines_text}
 use Rattle.datalad_cli.specs.Commands.{Command, step_of, Leaves, Reading, Misread, Asks}
-use Rattle.datalad_cli.specs.Reports.{Failure, Heard, Tapes, Says, SaysPart, SomeRose, UsageEnds, of_device, of_memory}
+use Rattle.datalad_cli.specs.Reports.{Failure, Heard, Tapes, Says, SaysPart, SomeRose, UsageEnds}
+use Rattle.datalad_cli.specs.Reports.{of_device, of_memory}
 use Rattle.datalad_cli.specs.declared.status.Status.{Status}
-use Rattle.datalad_cli.specs.declared.status.Status.TheVariants.{Done, Refused, Usage, NoMemory, Device, CommandFailed}
+use Rattle.datalad_cli.specs.declared.status.Status.TheVariants.{Done, Refused, Usage, NoMemory}
+use Rattle.datalad_cli.specs.declared.status.Status.TheVariants.{Device, CommandFailed}
 
 -- What the files and the two outputs tell at one moment.
 pub record World : Type 0 where

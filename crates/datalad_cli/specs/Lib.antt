@@ -1,4 +1,6 @@
+pub mod All
 pub mod Answer
+pub mod Answered
 pub mod Codes
 pub mod Commands
 pub mod Decides

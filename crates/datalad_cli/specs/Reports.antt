@@ -1,15 +1,18 @@
 -- How the texts of a call are printed.
-use Rattle.std.specs.Prelude.{◌≡◌, ◌⊎◌, ℕ, ◌≤◌, Bool, true, false, IsTrue, List, [], ◌++◌, length, take, Result, Ok, Err}
-use Rattle.file_store.specs.Causes.{Rose}
-use Rattle.file_store.specs.Tape.{Tape}
+use Rattle.std.specs.Prelude.{◌≡◌, ◌⊎◌, ℕ, ◌≤◌, Bool, true, false, IsTrue, List, [], ◌++◌, length}
+use Rattle.std.specs.Prelude.{take, Result, Ok, Err}
+use Rattle.file_store.specs.All.{Rose, Tape}
+use Rattle.faults.specs.All.{fault_text}
 use Rattle.faults.specs.declared.lines.Line.{Line}
 use Rattle.faults.specs.declared.faults.Fault.{Fault}
 use Rattle.faults.specs.declared.faults.Trouble.{Trouble}
-use Rattle.faults.specs.declared.faults.Trouble.TheVariants.{Refused as RefusedBy, Device as ByDevice, NoMemory as ByMemory}
-use Rattle.faults.specs.Texts.{fault_text}
+use Rattle.faults.specs.declared.faults.Trouble.TheVariants.{Refused as RefusedBy}
+use Rattle.faults.specs.declared.faults.Trouble.TheVariants.{Device as ByDevice}
+use Rattle.faults.specs.declared.faults.Trouble.TheVariants.{NoMemory as ByMemory}
 use Rattle.datalad_cli.specs.Answer.{lines_text, usage_text, device_text, memory_text}
 use Rattle.datalad_cli.specs.declared.status.Status.{Status}
-use Rattle.datalad_cli.specs.declared.status.Status.TheVariants.{Done, Refused, Usage, NoMemory, Device, CommandFailed}
+use Rattle.datalad_cli.specs.declared.status.Status.TheVariants.{Done, Refused, Usage, NoMemory}
+use Rattle.datalad_cli.specs.declared.status.Status.TheVariants.{Device, CommandFailed}
 
 -- What the two outputs tell at one moment.
 pub record Tapes : Type 0 where

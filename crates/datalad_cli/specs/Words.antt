@@ -1,8 +1,9 @@
 -- The words of a call.
-use Rattle.std.specs.Prelude.{ℕ, Bool, not, ◌&&◌, nat_eq, nat_le, List, [], ◌∷◌, length, codes, bytes_eq, Option, Some, None, if◌then◌else◌}
+use Rattle.std.specs.Prelude.{ℕ, Bool, not, ◌&&◌, nat_eq, nat_le, List, [], ◌∷◌, length, codes}
+use Rattle.std.specs.Prelude.{bytes_eq, Option, Some, None, if◌then◌else◌}
 use Rattle.std.specs.List.{starts_with, list_all}
-use Rattle.places.specs.Names.{Names, is_name, text_of, target, has_name, longest}
-use Rattle.repository.specs.Layout.{dlrepo}
+use Rattle.places.specs.All.{Names, is_name, text_of, target, has_name, longest}
+use Rattle.repository.specs.All.{dlrepo}
 
 -- The first word outside the form `create DIR`, or the number of words where one lacks; None where
 -- they are of this form.

@@ -2,12 +2,11 @@
 //
 // Of some endings more than one status would fit: want of memory is never ruled out. So the program hands on no status
 // of its own choice, but this value, and exits with its number.
-ghost use Rattle.std.specs.Prelude.{◌≡◌, map, string_bytes, IsTrue};
+ghost use Rattle.std.specs.Prelude.{◌≡◌, map, string_bytes};
 ghost use Rattle.datalad_cli.specs.Answer.{call_of};
+ghost use Rattle.datalad_cli.specs.Answered.{Answered};
 ghost use Rattle.datalad_cli.specs.Codes.{code_of};
-ghost use Rattle.datalad_cli.specs.Commands.{reading};
-ghost use Rattle.datalad_cli.specs.Decides.{WordsDecide};
-ghost use Rattle.datalad_cli.specs.Ends.{CallEnds, CallGoes, telling_of, world_of};
+ghost use Rattle.datalad_cli.specs.Ends.{telling_of, world_of};
 
 use crate::status::Status;
 use crate::top::datalad;
@@ -49,16 +48,10 @@ pub fn run<F: Files, O: Sink, E: Sink>(
     out: &mut O,
     err: &mut E,
 ) -> Ended
-    ensures ends { CallEnds (telling_of F.tells O.tells E.tells)
-        (reading (call_of (map string_bytes words.now) cwd.now moment fresh))
+    ensures { Answered (telling_of F.tells O.tells E.tells)
+        (call_of (map string_bytes words.now) cwd.now moment fresh)
         (world_of (F.drive files.old) (O.tape out.old) (E.tape err.old))
         (world_of (F.drive files.new) (O.tape out.new) (E.tape err.new)) result }
-    ensures words { WordsDecide (telling_of F.tells O.tells E.tells)
-        (reading (call_of (map string_bytes words.now) cwd.now moment fresh))
-        (world_of (F.drive files.old) (O.tape out.old) (E.tape err.old))
-        (world_of (F.drive files.new) (O.tape out.new) (E.tape err.new)) result }
-    ensures crash { IsTrue F.tells → CallGoes (reading (call_of (map string_bytes words.now) cwd.now moment
-        fresh)) (F.drive files.old) (F.drive files.new) }
 {
     Ended {
         status: datalad(alloc, words, cwd, moment, fresh, files, out, err),

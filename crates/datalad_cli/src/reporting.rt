@@ -1,7 +1,7 @@
 // Printing what came of a call: the result lines, then the text of the ending.
 ghost use Rattle.std.specs.Prelude.{◌≡◌, IsTrue, IfOk, string_bytes};
-ghost use Rattle.faults.specs.Lines.{line_text as line_of};
-ghost use Rattle.file_store.specs.Tape.{IsLater};
+ghost use Rattle.faults.specs.All.{line_text as line_of};
+ghost use Rattle.file_store.specs.All.{IsLater};
 ghost use Rattle.datalad_cli.specs.Answer.{lines_text as lines_of, device_text, memory_text, usage_text as usage_of};
 ghost use Rattle.datalad_cli.specs.Reports.{TookText, UsageEnds, RefusalEnds, ReportEnds};
 ghost use Rattle.datalad_cli.specs.declared.status.Status.TheVariants.{Device, NoMemory};

@@ -1,6 +1,6 @@
 // The top call: one command, from its words to its two texts and its status.
 ghost use Rattle.std.specs.Prelude.{◌≡◌, [], map, string_bytes, IsTrue};
-ghost use Rattle.acts.specs.Ends.{Acts};
+ghost use Rattle.acts.specs.All.{Acts};
 ghost use Rattle.datalad_cli.specs.Answer.{call_of};
 ghost use Rattle.datalad_cli.specs.Commands.{Create, step_of, MayAnswer, MaySay, reading};
 ghost use Rattle.datalad_cli.specs.Decides.{WordsDecide};

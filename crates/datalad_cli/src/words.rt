@@ -1,8 +1,8 @@
 // The words of a call: `create DIR`, and where the directory's word leads.
 ghost use Rattle.std.specs.Prelude.{◌≡◌, codes, nat_eq, map, string_bytes, bytes_eq, MatchResult, None, Some};
 ghost use Rattle.std.specs.List.{starts_with};
-ghost use Rattle.places.specs.Names.{has_name};
-ghost use Rattle.repository.specs.Layout.{dlrepo};
+ghost use Rattle.places.specs.All.{has_name};
+ghost use Rattle.repository.specs.All.{dlrepo};
 ghost use Rattle.datalad_cli.specs.Words.{misread, dir_word, leads};
 
 use file_store::{Place, PlaceErr};

@@ -1,3 +1,4 @@
+pub mod All
 pub mod Lines
 pub mod Texts
 pub mod Topics

@@ -1,10 +1,24 @@
 -- The text of each fault, as it is printed.
 use Rattle.std.specs.Prelude.{ℕ, List, ◌++◌, codes, decimal}
 use Rattle.std.specs.Fmt.{signed_decimal}
-use Rattle.places.specs.Names.{text_of}
+use Rattle.places.specs.All.{text_of}
 use Rattle.hex.specs.Hex.{encode_lower}
 use Rattle.faults.specs.declared.faults.Fault.{Fault}
-use Rattle.faults.specs.declared.faults.Fault.TheVariants.{NotADataset, AlreadyThere, OutsideDataset, BadPath, Dirty, PathUnknown, NotAnnexed, NoSuchRevision, Ambiguous, NoRecord, NoBase, MergeInRange, PickConflict, ExitDiffers, NoCopy, TooFewCopies, PinMissing, NotPinned, NoSource, BranchThere, BadBranch, BadPlaceholder, BadRecord, Damaged, BadTree, BadCommit, Missing, BadLine, BadLog, Collision, OddKind, UnsupportedMode, PathClash, TooLarge, TooLong, TimeFull, Blocked, SiblingThere, BadName, NoDatasetId, NoSibling, Diverged, BadStream, NotExportable, CheckFailed}
+use Rattle.faults.specs.declared.faults.Fault.TheVariants.{NotADataset, AlreadyThere}
+use Rattle.faults.specs.declared.faults.Fault.TheVariants.{OutsideDataset, BadPath, Dirty}
+use Rattle.faults.specs.declared.faults.Fault.TheVariants.{PathUnknown, NotAnnexed, NoSuchRevision}
+use Rattle.faults.specs.declared.faults.Fault.TheVariants.{Ambiguous, NoRecord, NoBase}
+use Rattle.faults.specs.declared.faults.Fault.TheVariants.{MergeInRange, PickConflict, ExitDiffers}
+use Rattle.faults.specs.declared.faults.Fault.TheVariants.{NoCopy, TooFewCopies, PinMissing}
+use Rattle.faults.specs.declared.faults.Fault.TheVariants.{NotPinned, NoSource, BranchThere}
+use Rattle.faults.specs.declared.faults.Fault.TheVariants.{BadBranch, BadPlaceholder, BadRecord}
+use Rattle.faults.specs.declared.faults.Fault.TheVariants.{Damaged, BadTree, BadCommit, Missing}
+use Rattle.faults.specs.declared.faults.Fault.TheVariants.{BadLine, BadLog, Collision, OddKind}
+use Rattle.faults.specs.declared.faults.Fault.TheVariants.{UnsupportedMode, PathClash, TooLarge}
+use Rattle.faults.specs.declared.faults.Fault.TheVariants.{TooLong, TimeFull, Blocked, SiblingThere}
+use Rattle.faults.specs.declared.faults.Fault.TheVariants.{BadName, NoDatasetId, NoSibling}
+use Rattle.faults.specs.declared.faults.Fault.TheVariants.{Diverged, BadStream, NotExportable}
+use Rattle.faults.specs.declared.faults.Fault.TheVariants.{CheckFailed}
 
 -- What is printed of a fault.
 abbrev pub fault_text : Fault → List ℕ

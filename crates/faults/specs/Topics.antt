@@ -1,6 +1,15 @@
 -- What the text of a fault speaks of.
 use Rattle.faults.specs.declared.faults.Fault.{Fault}
-use Rattle.faults.specs.declared.faults.Fault.TheVariants.{NotADataset, AlreadyThere, OutsideDataset, BadPath, Ambiguous, NoRecord, NoBase, MergeInRange, PickConflict, ExitDiffers, NoCopy, TooFewCopies, PinMissing, BadPlaceholder, BadRecord, Damaged, BadTree, BadCommit, Missing, BadLine, BadLog, Collision, TooLarge, TooLong, Blocked, NoDatasetId, Diverged, BadStream, NotExportable, CheckFailed}
+use Rattle.faults.specs.declared.faults.Fault.TheVariants.{NotADataset, AlreadyThere}
+use Rattle.faults.specs.declared.faults.Fault.TheVariants.{OutsideDataset, BadPath, Ambiguous}
+use Rattle.faults.specs.declared.faults.Fault.TheVariants.{NoRecord, NoBase, MergeInRange}
+use Rattle.faults.specs.declared.faults.Fault.TheVariants.{PickConflict, ExitDiffers, NoCopy}
+use Rattle.faults.specs.declared.faults.Fault.TheVariants.{TooFewCopies, PinMissing, BadPlaceholder}
+use Rattle.faults.specs.declared.faults.Fault.TheVariants.{BadRecord, Damaged, BadTree, BadCommit}
+use Rattle.faults.specs.declared.faults.Fault.TheVariants.{Missing, BadLine, BadLog, Collision}
+use Rattle.faults.specs.declared.faults.Fault.TheVariants.{TooLarge, TooLong, Blocked, NoDatasetId}
+use Rattle.faults.specs.declared.faults.Fault.TheVariants.{Diverged, BadStream, NotExportable}
+use Rattle.faults.specs.declared.faults.Fault.TheVariants.{CheckFailed}
 
 -- A place; a number; the id of an object; a number in an object; a number with a place or a path;
 -- more than these; or a name, a path or a word.

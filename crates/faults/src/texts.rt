@@ -3,7 +3,8 @@ ghost use Rattle.std.specs.Prelude.{◌≡◌, ◌≢◌, MatchOption, ◌++◌,
 ghost use Rattle.std.specs.Fmt.{signed_decimal};
 ghost use Rattle.places.specs.declared.place.PlaceErr.TheVariants.{NoMemory};
 ghost use Rattle.hex.specs.Hex.{encode_lower};
-ghost use Rattle.faults.specs.declared.faults.Fault.TheVariants.{Ambiguous, PickConflict, ExitDiffers, NoCopy, TooFewCopies, PinMissing, Diverged};
+ghost use Rattle.faults.specs.declared.faults.Fault.TheVariants.{Ambiguous, PickConflict, ExitDiffers, NoCopy};
+ghost use Rattle.faults.specs.declared.faults.Fault.TheVariants.{TooFewCopies, PinMissing, Diverged};
 ghost use Rattle.faults.specs.Topics.{topic_of, OfPlace, OfNumber, OfId, OfName, OfOffset, OfSize, OfSeveral};
 ghost use Rattle.faults.specs.Texts.{fault_text as text_of_fault};
 

@@ -9,9 +9,9 @@ use Rattle.std.proofs.lemmas.Map.Keys.{Less-from_sorted}
 use Rattle.std.proofs.lemmas.Map.Views.{Contains-from_any}
 use Rattle.std.proofs.lemmas.List.Folds.{list_any_at}
 use Rattle.std.proofs.lemmas.Option.{get_or_from_slice_get, slice_get-get_or, slice_get_cases}
-use Rattle.places.specs.Names.{Names, IsAbove}
-use Rattle.places.specs.Order.{place_cmp, place_eq, same_names}
-use Rattle.places.specs.Ground.{Ground, file_at, stands, is_shut, IsGround}
+use Rattle.places.specs.All.{Names, IsAbove, place_cmp, place_eq, Ground, file_at, stands, is_shut}
+use Rattle.places.specs.All.{IsGround}
+use Rattle.places.proofs.Ties.{same_names}
 use Rattle.places.proofs.Texts.{and_both}
 use Rattle.places.proofs.Grammar.{or_either, or_left, or_right}
 use Rattle.places.proofs.Grounds.{cases_place, same, file_at-insert_same, file_at-insert_other, file_at-remove_same, file_at-remove_other}

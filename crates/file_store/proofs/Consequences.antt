@@ -1,10 +1,10 @@
 -- What follows for grounds along rounds, with no device: each place alone, and the last round.
 use Rattle.std.proofs.Common.{◌≡◌, ◌⊎◌, inl, inr, ⊎_elim, ℕ, List, [], ◌∷◌, ◌++◌, Option, refl, sym, ap, ◌∙◌}
-use Rattle.places.specs.Names.{Names}
-use Rattle.places.specs.Ground.{Ground, file_at}
+use Rattle.places.specs.All.{Names, Ground, file_at}
 use Rattle.places.proofs.Grounds.{cases_place}
 use Rattle.file_store.specs.Disk.{Disk, IsImage}
-use Rattle.file_store.specs.Course.{Round, with_file, changed, finally, WasOpen, LiesBetween, Along, still, here, there, LiesAlong, IsBetween, IsAlong}
+use Rattle.file_store.specs.Course.{Round, with_file, changed, finally, WasOpen, LiesBetween, Along}
+use Rattle.file_store.specs.Course.{still, here, there, LiesAlong, IsBetween, IsAlong}
 use Rattle.file_store.proofs.Rounds.{with_file_other, LeftBy, changed_other}
 
 -- no alternative

@@ -3,13 +3,15 @@ use Rattle.std.proofs.Common.{◌≡◌, ◌≢◌, ◌⊎◌, inl, inr, ⊎_eli
 use Rattle.std.specs.Prelude.{IsTrue}
 use Rattle.std.proofs.lemmas.Bool.{cases_Bool, false≢true}
 use Rattle.std.proofs.lemmas.Slice.Eq.{bytes_eq-Decides}
-use Rattle.places.specs.Names.{Names}
-use Rattle.places.specs.Ground.{Ground, file_at}
+use Rattle.places.specs.All.{Names, Ground, file_at}
 use Rattle.places.proofs.Texts.{or_neither}
 use Rattle.places.proofs.Grounds.{cases_place, file_at-insert_other, file_at-remove_same, file_at-remove_other}
-use Rattle.file_store.specs.Disk.{Disk, Drive, History, Since, begun, MayStep, MayHave, IsWritten, IsSynced, IsClosed, is_open, same_file, at_rest, wrote, synced, renamed, removed}
+use Rattle.file_store.specs.Disk.{Disk, Drive, History, Since, begun, MayStep, MayHave, IsWritten}
+use Rattle.file_store.specs.Disk.{IsSynced, IsClosed, is_open, same_file, at_rest, wrote, synced}
+use Rattle.file_store.specs.Disk.{renamed, removed}
 use Rattle.file_store.specs.Ends.{present}
-use Rattle.file_store.specs.Course.{Round, changed, finally, LiesBetween, Along, still, here, there, LiesAlong, Arrives, Goes}
+use Rattle.file_store.specs.Course.{Round, changed, finally, LiesBetween, Along, still, here, there}
+use Rattle.file_store.specs.Course.{LiesAlong, Arrives, GoesAlong}
 use Rattle.file_store.proofs.Images.{MayHave-wrote, MayHave-synced, MayHave-closed, MayHave-renamed, file_at-renamed_same, file_at-renamed_other}
 use Rattle.file_store.proofs.Moments.{weaken, stays, carries, join as join_runs}
 use Rattle.file_store.proofs.Rounds.{changed-as}
@@ -161,29 +163,29 @@ module _ (IsFirm : Names → Type 0) (start mid : Disk) (g : Ground) (arrives : 
 
 module _ {IsFirm : Names → Type 0} where
   -- a command that has only read, or done nothing
-  pub goes_reading : {rounds : Ground → List Round} {old new : Drive} → new.history ≡ old.history → Goes IsFirm rounds old new
+  pub goes_reading : {rounds : Ground → List Round} {old new : Drive} → new.history ≡ old.history → GoesAlong IsFirm rounds old new
   goes_reading {rounds} {old} {new} is = record { moments = stays (begun (still (at_start IsFirm old.history.latest))) is }
 
-  pub goes_nowhere : {rounds : Ground → List Round} (d : Drive) → Goes IsFirm rounds d d
+  pub goes_nowhere : {rounds : Ground → List Round} (d : Drive) → GoesAlong IsFirm rounds d d
   goes_nowhere d = goes_reading refl
 
   -- a write at a loose place
-  pub goes_writing : {rounds : Ground → List Round} {old mid new : Drive} (p : Names) → Goes IsFirm rounds old mid → ((q : Names) → IsFirm q → q ≢ p) → MayStep (IsWritten p) mid.history new.history → Goes IsFirm rounds old new
+  pub goes_writing : {rounds : Ground → List Round} {old mid new : Drive} (p : Names) → GoesAlong IsFirm rounds old mid → ((q : Names) → IsFirm q → q ≢ p) → MayStep (IsWritten p) mid.history new.history → GoesAlong IsFirm rounds old new
   goes_writing {rounds} {old} p goes loose step = record {
     moments = carries (IsWritten p)
         (λ d e along is. subst (LiesAlong IsFirm old.history.latest (present old) (rounds (present old))) (sym is.1) (LiesAlong-step IsFirm old.history.latest d (wrote p is.0 d) (present old) (rounds (present old)) (λ a b lies. LiesBetween-wrote IsFirm old.history.latest a b d lies p is.0 loose) along)) goes.moments step;
   }
 
   -- a barrier
-  pub goes_syncing : {rounds : Ground → List Round} {old mid new : Drive} → Goes IsFirm rounds old mid → MayStep IsSynced mid.history new.history → Goes IsFirm rounds old new
+  pub goes_syncing : {rounds : Ground → List Round} {old mid new : Drive} → GoesAlong IsFirm rounds old mid → MayStep IsSynced mid.history new.history → GoesAlong IsFirm rounds old new
   goes_syncing {rounds} {old} goes step = record {
     moments = carries IsSynced (λ d e along is. subst (LiesAlong IsFirm old.history.latest (present old) (rounds (present old))) (sym is) (LiesAlong-step IsFirm old.history.latest d (synced d) (present old) (rounds (present old)) (λ a b lies. LiesBetween-synced IsFirm old.history.latest a b d lies) along)) goes.moments step;
   }
 
   -- one command after another: what the first has come to is what the second begins with
-  pub join : {first second both : Ground → List Round} {old mid new : Drive} → Goes IsFirm first old mid
-      → Arrives IsFirm old.history.latest (finally (first (present old)) (present old)) mid.history.latest → Goes IsFirm second mid new
-      → both (present old) ≡ first (present old) ++ second (present mid) → Goes IsFirm both old new
+  pub join : {first second both : Ground → List Round} {old mid new : Drive} → GoesAlong IsFirm first old mid
+      → Arrives IsFirm old.history.latest (finally (first (present old)) (present old)) mid.history.latest → GoesAlong IsFirm second mid new
+      → both (present old) ≡ first (present old) ++ second (present mid) → GoesAlong IsFirm both old new
   join {first} {second} {both} {old} {mid} {new} begins_so arrives goes_on_so is = record {
     moments =
         let start = old.history.latest in
@@ -195,7 +197,7 @@ module _ {IsFirm : Names → Type 0} where
   }
 
   -- a command that stopped early has gone along any rounds that begin with its own
-  pub goes_early : {first both : Ground → List Round} {old new : Drive} (more : List Round) → Goes IsFirm first old new → both (present old) ≡ first (present old) ++ more → Goes IsFirm both old new
+  pub goes_early : {first both : Ground → List Round} {old new : Drive} (more : List Round) → GoesAlong IsFirm first old new → both (present old) ≡ first (present old) ++ more → GoesAlong IsFirm both old new
   goes_early {first} {both} {old} {new} more goes is = record {
     moments = subst (λ (rounds : List Round). Since (LiesAlong IsFirm old.history.latest (present old) rounds) old.history new.history) (sym is)
         (weaken (λ d along. early more along) goes.moments);
@@ -208,23 +210,23 @@ arrives_at IsFirm start g h d rests same = subst (Arrives IsFirm start g) (sym r
 -- ---- the same moments in other words
 
 pub goes_as : {IsFirm Firmer : Names → Type 0} {rounds words : Ground → List Round} {old mid new : Drive} → mid.history ≡ old.history → ((q : Names) → Firmer q → IsFirm q)
-    → SameRounds Firmer (present old) (rounds (present old)) (present old) (words (present old)) → Goes IsFirm rounds mid new → Goes Firmer words old new
+    → SameRounds Firmer (present old) (rounds (present old)) (present old) (words (present old)) → GoesAlong IsFirm rounds mid new → GoesAlong Firmer words old new
 goes_as {IsFirm} {Firmer} {rounds} {words} {old} {mid} {new} is firm same goes = record {
   moments = weaken (λ d along. LiesAlong-map IsFirm Firmer old.history.latest old.history.latest d d
       (λ a b lies. record { now = λ q f. lies.now q (firm q f); any = λ q v f has. lies.any q v (firm q f) has }) (present old) (present old) (rounds (present old)) (words (present old)) (λ q f. refl) same along)
       (subst (λ (h : History). Since (LiesAlong IsFirm h.latest h.latest.now (rounds h.latest.now)) h new.history) is goes.moments);
 }
 
-pub goes_words : {IsFirm : Names → Type 0} {rounds words : Ground → List Round} {old mid new : Drive} → mid.history ≡ old.history → words (present old) ≡ rounds (present old) → Goes IsFirm rounds mid new → Goes IsFirm words old new
+pub goes_words : {IsFirm : Names → Type 0} {rounds words : Ground → List Round} {old mid new : Drive} → mid.history ≡ old.history → words (present old) ≡ rounds (present old) → GoesAlong IsFirm rounds mid new → GoesAlong IsFirm words old new
 goes_words {IsFirm} {rounds} {words} {old} {mid} {new} is same goes = record {
   moments = subst (λ (rs : List Round). Since (LiesAlong IsFirm old.history.latest (present old) rs) old.history new.history) (sym same)
       (subst (λ (h : History). Since (LiesAlong IsFirm h.latest h.latest.now (rounds h.latest.now)) h new.history) is goes.moments);
 }
 
 -- rounds that come only where a test of the ground fails
-pub goes_whole : (IsFirm : Names → Type 0) (shut : Ground → Bool) (rounds : List Round) {old new : Drive} → Goes IsFirm (λ g. if shut g then [] else rounds) old new → Goes IsFirm (λ g. rounds) old new
+pub goes_whole : (IsFirm : Names → Type 0) (shut : Ground → Bool) (rounds : List Round) {old new : Drive} → GoesAlong IsFirm (λ g. if shut g then [] else rounds) old new → GoesAlong IsFirm (λ g. rounds) old new
 goes_whole IsFirm shut rounds {old} {new} goes = by (shut (present old)) refl
   where
-    by : (b : Bool) → shut (present old) ≡ b → Goes IsFirm (λ g. rounds) old new
+    by : (b : Bool) → shut (present old) ≡ b → GoesAlong IsFirm (λ g. rounds) old new
     by true is = goes_early rounds goes (sym (ap (λ b. (if b then [] else rounds) ++ rounds) is))
     by false is = goes_words refl (sym (ap (λ b. if b then [] else rounds) is)) goes

@@ -1,8 +1,7 @@
 -- A call that had its effect has made a step.
 use Rattle.std.proofs.Common.{◌≡◌, inr, ℕ, ◌++◌, List, [], refl}
 use Rattle.std.specs.Prelude.{unwrap_or}
-use Rattle.places.specs.Names.{Names}
-use Rattle.places.specs.Ground.{file_at}
+use Rattle.places.specs.All.{Names, file_at}
 use Rattle.file_store.specs.Disk.{Disk, History, next, MayStep, IsWritten, wrote, appended}
 
 pub may_step : (S : Disk → Disk → Type 0) (old new : History) (d : Disk) → new ≡ next old d → S old.latest d → MayStep S old new

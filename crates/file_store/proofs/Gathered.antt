@@ -4,17 +4,19 @@ use Rattle.std.specs.Prelude.{Vec, IsSome, IfOk, Result, Ok, Err}
 use Rattle.std.specs.declared.alloc.Global.{Global}
 use Rattle.std.specs.List.Sorted.{IsStrictlySortedBy}
 use Rattle.std.specs.BTreeMap.{BTreeMap, IsOrdered}
-use Rattle.std.specs.FinMap.{empty, insert, from_entries, from_entries_push, find, get-from_entries, keys}
+use Rattle.std.specs.FinMap.{empty, insert, from_entries, from_entries_push, find, get-from_entries}
+use Rattle.std.specs.FinMap.{keys}
 use Rattle.std.proofs.lemmas.List.{take_more}
-use Rattle.places.specs.Names.{Names, IsAbove, IsApart, are_apart}
-use Rattle.places.specs.Order.{place_cmp, names_cmp, names_cmp_total, names_cmp-IsAntisymmetric}
-use Rattle.places.specs.Ground.{Ground, file_at, stands, is_shut, IsGround}
+use Rattle.places.specs.All.{Names, IsAbove, IsApart, are_apart, place_cmp, names_cmp, Ground}
+use Rattle.places.specs.All.{file_at, stands, is_shut, IsGround}
+use Rattle.places.proofs.Ties.{names_cmp_total, names_cmp-IsAntisymmetric}
 use Rattle.places.proofs.Texts.{or_neither}
 use Rattle.places.proofs.Grammar.{or_either, or_left, or_right}
 use Rattle.places.proofs.Above.{apart-sound}
 use Rattle.places.proofs.Apart.{HowPlaced, is_same, is_over, is_under, is_beside, how_placed, apart-complete}
 use Rattle.places.proofs.Standing.{any_key, key_any, same_truth, stands-none, is_shut-file, is_shut-by, IsGround-insert, IsGround-empty}
-use Rattle.file_store.specs.Memory.Lists.{plain, places_in, ground_of, clashes, clash_after, clash_of, IsListOf, AddEnds, GatherEnds}
+use Rattle.file_store.specs.Memory.Lists.{plain, places_in, ground_of, clashes, clash_after}
+use Rattle.file_store.specs.Memory.Lists.{clash_of, IsListOf, AddEnds, GatherEnds}
 use Rattle.file_store.specs.declared.memory.errors.MemErr.{MemErr}
 use Rattle.file_store.specs.declared.memory.errors.MemErr.TheVariants.{Clash, NoMemory}
 use Rattle.file_store.proofs.Stored.{Entries, any-entries}

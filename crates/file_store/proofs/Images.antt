@@ -4,11 +4,10 @@ use Rattle.std.specs.Prelude.{IsTrue}
 use Rattle.std.specs.FinMap.{insert, remove}
 use Rattle.std.proofs.lemmas.Bool.{false≢true, or_from, and_left, and_right, not_from_true}
 use Rattle.std.proofs.lemmas.Slice.Eq.{bytes_eq-Decides}
-use Rattle.places.specs.Names.{Names}
-use Rattle.places.specs.Order.{place_eq}
-use Rattle.places.specs.Ground.{Ground, file_at}
+use Rattle.places.specs.All.{Names, place_eq, Ground, file_at}
 use Rattle.places.proofs.Grounds.{other, cases_place, file_at-insert_same, file_at-insert_other, file_at-remove_other}
-use Rattle.file_store.specs.Disk.{Disk, MayHave, IsClosed, at_rest, wrote, removed, renamed, moved, synced, same_file}
+use Rattle.file_store.specs.Disk.{Disk, MayHave, IsClosed, at_rest, wrote, removed, renamed, moved}
+use Rattle.file_store.specs.Disk.{synced, same_file}
 
 -- the place of a write is the only one that changes
 pub MayHave-wrote : (p : Names) (bytes : List ℕ) (d : Disk) (q : Names) (v : Option (List ℕ)) → q ≢ p → MayHave (wrote p bytes d) q v → MayHave d q v

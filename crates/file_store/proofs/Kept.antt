@@ -3,9 +3,7 @@ use Rattle.std.proofs.Common.{◌≡◌, ◌≢◌, inl, inr, ℕ, Bool, true, f
 use Rattle.std.specs.Prelude.{OnOk, OnErr}
 use Rattle.std.specs.FinMap.{insert, remove}
 use Rattle.std.proofs.lemmas.Grind.{fold-append}
-use Rattle.places.specs.Names.{Names}
-use Rattle.places.specs.Order.{place_eq}
-use Rattle.places.specs.Ground.{Ground, file_at, IsGround, is_shut}
+use Rattle.places.specs.All.{Names, place_eq, Ground, file_at, IsGround, is_shut}
 use Rattle.places.proofs.Grounds.{cases_place, same, other, same_ground, file_at-insert_same, file_at-insert_other, file_at-remove_same, file_at-remove_other}
 use Rattle.places.proofs.Standing.{IsGround-insert, IsGround-remove, is_shut-remove_open}
 use Rattle.file_store.specs.Disk.{Disk, History, renamed, moved}

@@ -7,9 +7,8 @@ use Rattle.std.specs.Map.{keys_of}
 use Rattle.std.specs.FinMap.{empty, insert}
 use Rattle.std.proofs.lemmas.Cmp.{tied_itself}
 use Rattle.std.proofs.lemmas.Map.Keys.{sorted_head, sorted_tail}
-use Rattle.places.specs.Names.{Names}
-use Rattle.places.specs.Order.{place_cmp, place_cmp_total}
-use Rattle.places.specs.Ground.{Ground}
+use Rattle.places.specs.All.{Names, place_cmp, Ground}
+use Rattle.places.proofs.Ties.{place_cmp_total}
 use Rattle.places.proofs.Grounds.{cases_place, same_ground, file_at-insert_same, file_at-insert_other}
 use Rattle.file_store.specs.Memory.Lists.{ground_of}
 use Rattle.file_store.proofs.Stored.{Entries}

@@ -1,6 +1,7 @@
 -- What is seen under each name, once all places were, is what stands there.
 use Rattle.std.proofs.Common.{◌≡◌, inl, inr, ℕ, Bool, true, false, IsTrue, cond, not, ◌&&◌, List, [], ◌∷◌, ◌++◌, fold, Option, Some, None, Result, Ok, Err, append_assoc, refl, sym, ap, ◌∙◌, subst}
-use Rattle.std.specs.Prelude.{◌==◌, Vec, IsSome, is_some, String, string_bytes, bytes_eq, nat_lt, nat_le, length, unwrap_or, IfOk}
+use Rattle.std.specs.Prelude.{◌==◌, Vec, IsSome, is_some, String, string_bytes, bytes_eq, nat_lt}
+use Rattle.std.specs.Prelude.{nat_le, length, unwrap_or, IfOk}
 use Rattle.std.specs.declared.alloc.Global.{Global}
 use Rattle.std.specs.List.{All, AllByRecursion, list_any, list_all}
 use Rattle.std.specs.Map.{lookup, keys_of}
@@ -14,16 +15,17 @@ use Rattle.std.specs.Cmp.Lexicographic.{slice_cmp}
 use Rattle.std.proofs.lemmas.Bool.{cases_Bool}
 use Rattle.std.proofs.lemmas.Map.Text.{is_eq-slice_cmp}
 use Rattle.std.proofs.lemmas.Slice.Eq.{bytes_eq-Decides}
-use Rattle.places.specs.Names.{Names, slash, is_name, IsName, IsPlace, is_above}
-use Rattle.places.specs.Order.{place_eq, same_names}
-use Rattle.places.specs.Ground.{Ground, stands, stands_below, IsGround}
+use Rattle.places.specs.All.{Names, slash, is_name, IsName, IsPlace, is_above, place_eq, Ground}
+use Rattle.places.specs.All.{stands, stands_below, IsGround}
+use Rattle.places.proofs.Ties.{same_names}
 use Rattle.places.proofs.Texts.{and_both, or_neither}
 use Rattle.places.proofs.Grammar.{or_either}
 use Rattle.places.proofs.Above.{is_above-sound}
 use Rattle.places.proofs.Grounds.{same}
 use Rattle.places.proofs.Standing.{any_key, key_any, same_truth, stands_below-file}
 use Rattle.file_store.specs.Memory.Lists.{ground_of}
-use Rattle.file_store.specs.Kinds.{kind_at, is_item_name, names_in, listed_kind, is_there, AreThere, AreListed, IsListing}
+use Rattle.file_store.specs.Kinds.{kind_at, is_item_name, names_in, listed_kind, is_there, AreThere}
+use Rattle.file_store.specs.Kinds.{AreListed, IsListing}
 use Rattle.file_store.specs.Named.{seen, seen_among, as_items}
 use Rattle.file_store.specs.declared.kinds.Kind.{Kind}
 use Rattle.file_store.specs.declared.kinds.Kind.TheVariants.{Absent, File, Dir}

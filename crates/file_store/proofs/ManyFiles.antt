@@ -3,13 +3,14 @@ use Rattle.std.proofs.Common.{◌≡◌, ◌≢◌, ◌≤◌, inl, inr, ℕ, su
 use Rattle.std.specs.Prelude.{slice_get}
 use Rattle.std.specs.FinMap.{insert, remove}
 use Rattle.std.proofs.lemmas.Bool.{false_from_ne_true}
-use Rattle.places.specs.Names.{Names}
-use Rattle.places.specs.Ground.{Ground, file_at}
+use Rattle.places.specs.All.{Names, Ground, file_at}
 use Rattle.places.proofs.Grounds.{cases_place, file_at-insert_same, file_at-insert_other, file_at-remove_other}
 use Rattle.file_store.specs.Disk.{Disk, Drive, History, next, at_rest, synced}
 use Rattle.file_store.specs.Ends.{present, BarrierEnds}
-use Rattle.file_store.specs.Course.{changed, Goes}
-use Rattle.file_store.specs.Replaced.{replaced, staged, installed, all_replaced, stage_block, move_block, block_of, or_next, first_shut, ReplaceEnds, AreApart, IsNoTmp, round_of, replacing}
+use Rattle.file_store.specs.Course.{changed, GoesAlong}
+use Rattle.file_store.specs.Replaced.{replaced, staged, installed, all_replaced, stage_block}
+use Rattle.file_store.specs.Replaced.{move_block, block_of, or_next, first_shut, ReplaceEnds}
+use Rattle.file_store.specs.Replaced.{AreApart, IsNoTmp, round_of, replacing}
 use Rattle.file_store.specs.Rounds.{StageEnds, AreReady, MoveEnds}
 use Rattle.file_store.specs.declared.errors.FileErr.{FileErr}
 use Rattle.file_store.specs.declared.errors.FileErr.TheVariants.{Failed, Blocked, NoMemory}
@@ -83,11 +84,11 @@ not_first (r ∷ list) g free shut =
     absurd (cc)
 
 -- writes to the temporary places begin any rounds
-pub staged_goes : (list : List Replacement) {old new : Drive} → Goes (IsNoTmp list) (λ g. []) old new → Goes (IsNoTmp list) (replacing list) old new
+pub staged_goes : (list : List Replacement) {old new : Drive} → GoesAlong (IsNoTmp list) (λ g. []) old new → GoesAlong (IsNoTmp list) (replacing list) old new
 staged_goes list {old} goes = goes_early (replacing list (present old)) goes refl
 
 pub all_goes : (list : List Replacement) {d0 d2 d3 : Drive} (d1 : Drive) → present d1 ≡ staged list (present d0) → stage_block list (present d0) ≡ None → d2.history ≡ next d1.history (synced d1.history.latest)
-    → Goes (IsNoTmp list) (λ g. []) d0 d2 → Goes (IsNoTmp list) (λ g. round_of list ∷ []) d2 d3 → Goes (IsNoTmp list) (replacing list) d0 d3
+    → GoesAlong (IsNoTmp list) (λ g. []) d0 d2 → GoesAlong (IsNoTmp list) (λ g. round_of list ∷ []) d2 d3 → GoesAlong (IsNoTmp list) (replacing list) d0 d3
 all_goes list {d0} {d2} {d3} d1 wrote free kept first second =
     let g = present d0 in
     join first

@@ -1,10 +1,11 @@
 -- The files of a list moved from their temporary places to their own, one by one.
 use Rattle.std.proofs.Common.{◌≡◌, ◌≢◌, ◌+◌, ◌≤◌, ℕ, zero, suc, false, cond, List, [], ◌∷◌, drop, Some, refl, sym, ◌∙◌, ap, subst, arith}
 use Rattle.std.specs.Prelude.{slice_get}
-use Rattle.places.specs.Ground.{Ground, file_at, is_shut}
-use Rattle.file_store.specs.Disk.{Disk, Drive, History, Since, begun, next, MayStep, IsRenamed, IsClosed, renamed}
+use Rattle.places.specs.All.{Ground, file_at, is_shut}
+use Rattle.file_store.specs.Disk.{Disk, Drive, History, Since, begun, next, MayStep, IsRenamed}
+use Rattle.file_store.specs.Disk.{IsClosed, renamed}
 use Rattle.file_store.specs.Ends.{present}
-use Rattle.file_store.specs.Course.{here, LiesBetween, changed, Goes}
+use Rattle.file_store.specs.Course.{here, LiesBetween, changed, GoesAlong}
 use Rattle.file_store.specs.Replaced.{replaced, installed, move_block, AreApart, IsNoTmp, round_of}
 use Rattle.file_store.specs.Rounds.{AreReady}
 use Rattle.file_store.specs.declared.replacing.Replacement.{Replacement}
@@ -52,7 +53,7 @@ moving_starts list start ready = record {
   targets = λ j s _ listed. subst (λ (d : Disk). IsClosed d s.place) (sym ready.safe) (IsClosed-at_rest (present start) s.place);
 }
 
-pub moved_along : (list : List Replacement) {old new : Drive} → Since (Crossing list old.history) old.history new.history → Goes (IsNoTmp list) (λ g. round_of list ∷ []) old new
+pub moved_along : (list : List Replacement) {old new : Drive} → Since (Crossing list old.history) old.history new.history → GoesAlong (IsNoTmp list) (λ g. round_of list ∷ []) old new
 moved_along list run = record { moments = weaken (λ d lies. here lies) run }
 
 module _ (list : List Replacement) (start : History) where

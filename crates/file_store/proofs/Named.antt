@@ -10,8 +10,9 @@ use Rattle.std.proofs.Math.Seq.{take-append_seam}
 use Rattle.std.proofs.lemmas.List.Elements.{All-head, All-tail}
 use Rattle.std.proofs.lemmas.Map.Text.{btree_map_updates_text}
 use Rattle.std.proofs.lemmas.Slice.Eq.{bytes_eq-Decides}
-use Rattle.places.specs.Names.{Names, slash, IsName, slashed, relative, IsPlace, IsPathBelow, is_above}
-use Rattle.places.specs.Order.{place_eq, same_names}
+use Rattle.places.specs.All.{Names, slash, IsName, slashed, relative, IsPlace, IsPathBelow}
+use Rattle.places.specs.All.{is_above, place_eq}
+use Rattle.places.proofs.Ties.{same_names}
 use Rattle.places.proofs.Texts.{facts, or_neither}
 use Rattle.places.proofs.Above.{is_above-sound, is_above-complete, is_above-under, not_above_itself}
 use Rattle.places.proofs.Apart.{place_eq-under}

@@ -3,13 +3,14 @@ use Rattle.std.proofs.Common.{◌≡◌, ◌≢◌, ◌≤◌, ℕ, zero, suc, B
 use Rattle.std.specs.FinMap.{insert}
 use Rattle.std.specs.Prelude.{is_some, slice_get}
 use Rattle.std.proofs.lemmas.Bool.{false≢true}
-use Rattle.places.specs.Names.{Names}
-use Rattle.places.specs.Ground.{file_at, is_shut}
+use Rattle.places.specs.All.{Names, file_at, is_shut}
 use Rattle.places.proofs.Grounds.{file_at-insert_same}
-use Rattle.file_store.specs.Disk.{Disk, Drive, History, next, MayStep, IsWritten, IsRenamed, at_rest, wrote, renamed, synced}
+use Rattle.file_store.specs.Disk.{Disk, Drive, History, next, MayStep, IsWritten, IsRenamed}
+use Rattle.file_store.specs.Disk.{at_rest, wrote, renamed, synced}
 use Rattle.file_store.specs.Ends.{present, WriteEnds, BarrierEnds, RenameEnds}
-use Rattle.file_store.specs.Course.{Goes}
-use Rattle.file_store.specs.Replaced.{replaced, staged, only, block_of, ReplaceEnds, AreApart, IsNoTmp, replacing}
+use Rattle.file_store.specs.Course.{GoesAlong}
+use Rattle.file_store.specs.Replaced.{replaced, staged, only, block_of, ReplaceEnds, AreApart}
+use Rattle.file_store.specs.Replaced.{IsNoTmp, replacing}
 use Rattle.file_store.specs.declared.errors.FileErr.{FileErr}
 use Rattle.file_store.specs.declared.errors.FileErr.TheVariants.{Failed, Blocked, NoMemory}
 use Rattle.file_store.specs.declared.replacing.Replacement.{Replacement}
@@ -52,12 +53,12 @@ module _ (tmp p : Names) (bytes : List ℕ) (h0 h1 : History) where
 
 -- ---- at every moment
 
-pub write_goes : {tmp p : Names} {bytes : List ℕ} {d0 d1 : Drive} → MayStep (IsWritten tmp) d0.history d1.history → Goes (IsNoTmp (only tmp p bytes)) (λ g. []) d0 d1
+pub write_goes : {tmp p : Names} {bytes : List ℕ} {d0 d1 : Drive} → MayStep (IsWritten tmp) d0.history d1.history → GoesAlong (IsNoTmp (only tmp p bytes)) (λ g. []) d0 d1
 write_goes {tmp} {p} {bytes} {d0} step = goes_writing tmp (goes_nowhere d0) (λ q firm. firm 0 (record { tmp = tmp; place = p; bytes = bytes }) refl) step
 
 module _ {tmp p : Names} {bytes : List ℕ} {d0 d2 d3 : Drive} (d1 : Drive) where
   pub rename_goes : tmp ≢ p → d1.history ≡ next d0.history (wrote tmp bytes d0.history.latest) → is_shut (present d0) tmp ≡ false → d2.history ≡ next d1.history (synced d1.history.latest)
-      → Goes (IsNoTmp (only tmp p bytes)) (λ g. []) d0 d2 → MayStep (IsRenamed tmp p) d2.history d3.history → Goes (IsNoTmp (only tmp p bytes)) (replacing (only tmp p bytes)) d0 d3
+      → GoesAlong (IsNoTmp (only tmp p bytes)) (λ g. []) d0 d2 → MayStep (IsRenamed tmp p) d2.history d3.history → GoesAlong (IsNoTmp (only tmp p bytes)) (replacing (only tmp p bytes)) d0 d3
   rename_goes apart written free kept goes step =
       let list = only tmp p bytes in
       let r : Replacement = record { tmp = tmp; place = p; bytes = bytes } in

@@ -2,13 +2,12 @@
 use Rattle.std.proofs.Common.{◌≡◌, ◌+◌, ◌≤◌, inl, inr, ℕ, zero, suc, Bool, true, false, IsTrue, List, [], ◌∷◌, drop, Some, None, Ok, Err, Result, refl, sym, ◌∙◌, ap, subst, arith}
 use Rattle.std.specs.Prelude.{slice_get}
 use Rattle.std.specs.FinMap.{remove}
-use Rattle.places.specs.Names.{Names}
-use Rattle.places.specs.Ground.{Ground, file_at, stands}
+use Rattle.places.specs.All.{Names, Ground, file_at, stands}
 use Rattle.places.proofs.Grounds.{cases_place, same_ground, file_at-remove_same, file_at-remove_other}
 use Rattle.places.proofs.Standing.{stands-none}
 use Rattle.file_store.specs.Disk.{Disk, Drive, History, Since, begun, MayStep, IsRemoved, at_rest}
 use Rattle.file_store.specs.Ends.{present, RemoveEnds, BarrierEnds}
-use Rattle.file_store.specs.Course.{LiesBetween, here, changed, Goes}
+use Rattle.file_store.specs.Course.{LiesBetween, here, changed, GoesAlong}
 use Rattle.file_store.specs.Removed.{Everywhere, removal_of, RemoveAllEnds}
 use Rattle.file_store.specs.declared.errors.FileErr.{FileErr}
 use Rattle.file_store.specs.declared.errors.FileErr.TheVariants.{Failed, Blocked, NoMemory}
@@ -58,7 +57,7 @@ pub record Removing (list : List Names) (start now : History) (i : ℕ) : Type 0
 pub removing_starts : (list : List Names) (start : History) → Removing list start start 0
 removing_starts list start = record { rest = refl; run = begun (towards Everywhere start.latest start.latest.now (changed (removal_of list) start.latest.now) start.latest (at_start Everywhere start.latest)) }
 
-pub cleared : (list : List Names) {old new : Drive} → Since (Clearing list old.history) old.history new.history → Goes Everywhere (λ g. removal_of list ∷ []) old new
+pub cleared : (list : List Names) {old new : Drive} → Since (Clearing list old.history) old.history new.history → GoesAlong Everywhere (λ g. removal_of list ∷ []) old new
 cleared list run = record { moments = weaken (λ d lies. here lies) run }
 
 module _ (list : List Names) (start now new : History) (i : ℕ) (p : Names) (listed : slice_get list i ≡ Some p) (reached : Removing list start now i) where
@@ -94,5 +93,5 @@ remove_ends tells list old mid new (Err (Blocked at)) more made ends = ends
 remove_ends tells list old mid new (Err NoMemory) more made ends = tt
 
 -- in the midst of a command
-pub removing_goes : (list : List Names) {IsFirm : Names → Type 0} {old new : Drive} → Goes Everywhere (λ g. removal_of list ∷ []) old new → Goes IsFirm (λ g. removal_of list ∷ []) old new
+pub removing_goes : (list : List Names) {IsFirm : Names → Type 0} {old new : Drive} → GoesAlong Everywhere (λ g. removal_of list ∷ []) old new → GoesAlong IsFirm (λ g. removal_of list ∷ []) old new
 removing_goes list {IsFirm} {old} goes = goes_as refl (λ q firm. tt) (rounds_as IsFirm (present old) (present old) (removal_of list ∷ []) (λ q firm. refl)) goes

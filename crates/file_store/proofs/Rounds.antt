@@ -1,8 +1,6 @@
 -- Rounds: what stands at a place after them.
 use Rattle.std.proofs.Common.{◌≡◌, ◌≢◌, ℕ, cond, List, [], ◌∷◌, ◌++◌, Option, None, Some, refl, sym, ap, ◌∙◌}
-use Rattle.places.specs.Names.{Names}
-use Rattle.places.specs.Order.{place_eq}
-use Rattle.places.specs.Ground.{Ground, file_at}
+use Rattle.places.specs.All.{Names, place_eq, Ground, file_at}
 use Rattle.places.proofs.Grounds.{same, other, file_at-insert, file_at-remove}
 use Rattle.file_store.specs.Course.{Round, with_file, changed, finally}
 

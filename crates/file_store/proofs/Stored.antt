@@ -7,9 +7,9 @@ use Rattle.std.specs.Map.{lookup, keys_of}
 use Rattle.std.specs.BTreeMap.{BTreeMap, is_at, Updates, UpdatesBy}
 use Rattle.std.specs.FinMap.{insert, remove, keys, get-empty}
 use Rattle.std.proofs.lemmas.Bool.{false≢true, or_cases, or_parts}
-use Rattle.places.specs.Names.{Names, IsAbove, is_above}
-use Rattle.places.specs.Order.{place_cmp, place_eq, names_cmp, place_eq-cmp}
-use Rattle.places.specs.Ground.{Ground, file_at, stands_below, is_shut}
+use Rattle.places.specs.All.{Names, IsAbove, is_above, place_cmp, place_eq, names_cmp, Ground}
+use Rattle.places.specs.All.{file_at, stands_below, is_shut}
+use Rattle.places.proofs.Ties.{place_eq-cmp}
 use Rattle.places.proofs.Above.{is_above-sound, is_above-complete}
 use Rattle.places.proofs.Grammar.{or_either, or_left, or_right}
 use Rattle.places.proofs.Grounds.{cases_place, same, other, file_at-insert, file_at-insert_same, file_at-insert_other, file_at-remove, same_ground}

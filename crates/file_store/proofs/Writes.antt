@@ -2,7 +2,7 @@
 use Rattle.std.proofs.Common.{◌≡◌, ◌+◌, ◌<◌, ℕ, suc, true, false, cond, List, ◌∷◌, length, get_or, drop, drop-cons, add-one, Some, refl, sym, ◌∙◌, ap}
 use Rattle.std.specs.FinMap.{insert}
 use Rattle.std.proofs.lemmas.Bool.{false≢true}
-use Rattle.places.specs.Ground.{is_shut}
+use Rattle.places.specs.All.{is_shut}
 use Rattle.file_store.specs.Disk.{History, next, wrote}
 use Rattle.file_store.specs.Replaced.{staged, stage_block, first_shut}
 use Rattle.file_store.specs.declared.replacing.Replacement.{Replacement}

@@ -2,8 +2,7 @@
 -- way.
 use Rattle.std.specs.Prelude.{◌≡◌, ◌⊎◌, ℕ, IsTrue, List, [], ◌∷◌, Option, None, Some}
 use Rattle.std.specs.FinMap.{insert, remove}
-use Rattle.places.specs.Names.{Names}
-use Rattle.places.specs.Ground.{Ground, file_at}
+use Rattle.places.specs.All.{Names, Ground, file_at}
 use Rattle.file_store.specs.Disk.{Disk, Drive, Since, MayHave, is_open}
 use Rattle.file_store.specs.Ends.{present}
 
@@ -60,7 +59,7 @@ pub record Arrives (IsFirm : Names → Type 0) (start : Disk) (g : Ground) (d : 
       → WasOpen start q v
 
 -- At every moment since the start of a call the disk lies along these rounds.
-pub record Goes (IsFirm : Names → Type 0) (rounds : Ground → List Round) (old new : Drive)
+pub record GoesAlong (IsFirm : Names → Type 0) (rounds : Ground → List Round) (old new : Drive)
     : Type 0 where
   pub moments : Since (LiesAlong IsFirm old.history.latest (present old) (rounds
       (present old))) old.history new.history

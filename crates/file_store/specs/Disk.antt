@@ -1,9 +1,8 @@
 -- A disk, what each call makes of it, and what a crash may leave.
-use Rattle.std.specs.Prelude.{◌≡◌, ◌⊎◌, ℕ, Bool, true, false, not, ◌&&◌, ◌||◌, List, [], ◌∷◌, ◌++◌, Option, None, Some, IsTrue, bytes_eq, unwrap_or}
+use Rattle.std.specs.Prelude.{◌≡◌, ◌⊎◌, ℕ, Bool, true, false, not, ◌&&◌, ◌||◌, List, [], ◌∷◌, ◌++◌}
+use Rattle.std.specs.Prelude.{Option, None, Some, IsTrue, bytes_eq, unwrap_or}
 use Rattle.std.specs.FinMap.{insert, remove}
-use Rattle.places.specs.Names.{Names}
-use Rattle.places.specs.Order.{place_eq}
-use Rattle.places.specs.Ground.{Ground, file_at, IsGround}
+use Rattle.places.specs.All.{Names, place_eq, Ground, file_at, IsGround}
 
 -- What a read sees; what is safe from a crash; and the places at which a crash may leave anything.
 pub record Disk : Type 0 where

@@ -1,8 +1,8 @@
 -- How each call of files ends: what each outcome leaves and tells.
-use Rattle.std.specs.Prelude.{◌≡◌, ℕ, ◌≤◌, Bool, true, false, IsTrue, List, [], ◌++◌, length, take, drop, Option, option_map, unwrap_or, Vec, Result, Ok, Err}
+use Rattle.std.specs.Prelude.{◌≡◌, ℕ, ◌≤◌, Bool, true, false, IsTrue, List, [], ◌++◌, length, take}
+use Rattle.std.specs.Prelude.{drop, Option, option_map, unwrap_or, Vec, Result, Ok, Err}
 use Rattle.std.specs.declared.alloc.Global.{Global}
-use Rattle.places.specs.Names.{Names}
-use Rattle.places.specs.Ground.{Ground, file_at, stands, is_shut}
+use Rattle.places.specs.All.{Names, Ground, file_at, stands, is_shut}
 use Rattle.file_store.specs.Causes.{Rose}
 use Rattle.file_store.specs.Disk.{Drive, next, wrote, appended, renamed, removed, synced}
 use Rattle.file_store.specs.Kinds.{kind_at, AreListed, IsListing}
@@ -71,14 +71,24 @@ bytes_at g p = unwrap_or (file_at g p) []
 abbrev pub part_of : List ℕ → ℕ → ℕ → List ℕ
 part_of bytes from room = take room (drop from bytes)
 
--- `read_part` fills the buffer with that part, and says how many bytes it has.
-abbrev pub PartEnds : Bool → Names → ℕ → List ℕ → List ℕ → Drive → Drive → Result ℕ FileErr → Type 0
-PartEnds tells place from before after old new (Ok count) =
-    (count ≤ length before)
+-- What is asked of `read_part`: a file's place, an offset, and a buffer with what it has.
+pub record PartAsked : Type 0 where
+  pub place : Names
+  pub from : ℕ
+  pub buffer : List ℕ
+
+-- The part of the file that is asked for.
+abbrev pub part_at : PartAsked → Ground → List ℕ
+part_at asked g = part_of (bytes_at g asked.place) asked.from (length asked.buffer)
+
+-- `read_part` fills the front of the buffer with that part, and says how many bytes it has.
+abbrev pub PartEnds : Bool → PartAsked → List ℕ → Drive → Drive → Result ℕ FileErr → Type 0
+PartEnds tells asked after old new (Ok count) =
+    (count ≤ length asked.buffer)
     × (IsTrue tells → (new.history ≡ old.history)
-    × (count ≡ length (part_of (bytes_at (present old) place) from (length before)))
-    × (after ≡ part_of (bytes_at (present old) place) from (length before) ++ drop count before))
-PartEnds tells place from before after old new (Err e) = ReadFails tells old new e
+    × (count ≡ length (part_at asked (present old)))
+    × (after ≡ part_at asked (present old) ++ drop count asked.buffer))
+PartEnds tells asked after old new (Err e) = ReadFails tells old new e
 
 -- `list` gives one item per name directly below the place.
 abbrev pub ListEnds : Bool → Names → Drive → Drive → Result (Vec Item Global) FileErr → Type 0

@@ -1,3 +1,4 @@
+pub mod All
 pub mod Causes
 pub mod Course
 pub mod Disk

@@ -1,9 +1,9 @@
 -- The names directly below a place, among the places of all files.
-use Rattle.std.specs.Prelude.{ℕ, ◌==◌, List, [], ◌∷◌, ◌++◌, map, fold, length, nat_lt, if◌then◌else◌, Option, None, Some, String, string_bytes}
+use Rattle.std.specs.Prelude.{ℕ, ◌==◌, List, [], ◌∷◌, ◌++◌, map, fold, length, nat_lt}
+use Rattle.std.specs.Prelude.{if◌then◌else◌, Option, None, Some, String, string_bytes}
 use Rattle.std.specs.List.{position_or_len}
 use Rattle.std.specs.declared.alloc.Global.{Global}
-use Rattle.places.specs.Names.{Names, slash, is_above}
-use Rattle.places.specs.Order.{place_eq}
+use Rattle.places.specs.All.{Names, slash, is_above, place_eq}
 use Rattle.file_store.specs.declared.kinds.Kind.{Kind}
 use Rattle.file_store.specs.declared.kinds.Kind.TheVariants.{File, Dir}
 use Rattle.file_store.specs.declared.kinds.Item.{Item}

@@ -1,6 +1,6 @@
 -- Files that are removed in one round.
 use Rattle.std.specs.Prelude.{◌≡◌, Bool, IsTrue, List, map, None, Result, Ok, Err}
-use Rattle.places.specs.Names.{Names}
+use Rattle.places.specs.All.{Names}
 use Rattle.file_store.specs.Causes.{Rose}
 use Rattle.file_store.specs.Disk.{Drive, at_rest}
 use Rattle.file_store.specs.Course.{Round, changed}

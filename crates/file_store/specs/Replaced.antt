@@ -1,8 +1,8 @@
 -- Files that are replaced by way of other places.
-use Rattle.std.specs.Prelude.{◌≡◌, ◌≢◌, ℕ, Bool, true, false, IsTrue, if◌then◌else◌, List, [], ◌∷◌, map, slice_get, Option, Some, None, Result, Ok, Err}
+use Rattle.std.specs.Prelude.{◌≡◌, ◌≢◌, ℕ, Bool, true, false, IsTrue, if◌then◌else◌, List, [], ◌∷◌}
+use Rattle.std.specs.Prelude.{map, slice_get, Option, Some, None, Result, Ok, Err}
 use Rattle.std.specs.FinMap.{insert, remove}
-use Rattle.places.specs.Names.{Names}
-use Rattle.places.specs.Ground.{Ground, is_shut}
+use Rattle.places.specs.All.{Names, Ground, is_shut}
 use Rattle.file_store.specs.Causes.{Rose}
 use Rattle.file_store.specs.Disk.{Drive, at_rest}
 use Rattle.file_store.specs.Course.{Round}

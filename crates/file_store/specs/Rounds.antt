@@ -1,7 +1,8 @@
 -- The two rounds in which a list of files is replaced: the writes to the temporary places, and the
 -- moves from there.
-use Rattle.std.specs.Prelude.{◌≡◌, ℕ, Bool, true, IsTrue, List, slice_get, Some, None, Result, Ok, Err}
-use Rattle.places.specs.Ground.{file_at}
+use Rattle.std.specs.Prelude.{◌≡◌, ℕ, Bool, true, IsTrue, List, slice_get, Some, None, Result, Ok}
+use Rattle.std.specs.Prelude.{Err}
+use Rattle.places.specs.All.{file_at}
 use Rattle.file_store.specs.Causes.{Rose}
 use Rattle.file_store.specs.Disk.{Drive, at_rest}
 use Rattle.file_store.specs.Ends.{present}

@@ -1,5 +1,6 @@
 -- A sink: the bytes that it took, where it tells, and how often it failed or found no memory.
-use Rattle.std.specs.Prelude.{◌≡◌, ℕ, ◌≤◌, ◌<◌, Bool, IsTrue, List, ◌++◌, length, take, Result, Ok, Err}
+use Rattle.std.specs.Prelude.{◌≡◌, ℕ, ◌≤◌, ◌<◌, Bool, IsTrue, List, ◌++◌, length, take, Result, Ok}
+use Rattle.std.specs.Prelude.{Err}
 use Rattle.file_store.specs.Causes.{Rose}
 use Rattle.file_store.specs.declared.errors.SinkErr.{SinkErr}
 use Rattle.file_store.specs.declared.errors.SinkErr.TheVariants.{Failed, NoMemory}

@@ -1,8 +1,9 @@
 // Files as the layers above see them: what a call reads, what it changes, and what a crash may leave.
 ghost use Rattle.std.specs.Prelude.{◌≤◌, Bool, IsTrue};
-ghost use Rattle.places.specs.Ground.{IsGround};
+ghost use Rattle.places.specs.All.{IsGround};
 ghost use Rattle.file_store.specs.Disk.{Drive, MayStep, IsWritten, IsRenamed, IsRemoved, IsSynced};
-ghost use Rattle.file_store.specs.Ends.{present, KindEnds, SizeEnds, ReadEnds, PartEnds, ListEnds, WriteEnds, AppendEnds, RenameEnds, RemoveEnds, BarrierEnds};
+ghost use Rattle.file_store.specs.Ends.{present, KindEnds, SizeEnds, ReadEnds, PartEnds, ListEnds, WriteEnds};
+ghost use Rattle.file_store.specs.Ends.{AppendEnds, RenameEnds, RemoveEnds, BarrierEnds};
 
 use crate::errors::FileErr;
 use crate::kinds::{Item, Kind};
@@ -42,7 +43,8 @@ pub trait Files {
         buffer: &mut [u8],
     ) -> Result<usize, FileErr>
         ensures later { (drive self.old).faults ≤ (drive self.new).faults }
-        ensures ends { PartEnds tells place.now from buffer.old buffer.new (drive self.old) (drive self.new) result };
+        ensures ends { PartEnds tells (record { place = place.now; from = from; buffer = buffer.old }) buffer.new
+            (drive self.old) (drive self.new) result };
 
     /// One item per name directly below, in byte order.
     fn list(&mut self, alloc: Global, place: &Place) -> Result<Vec<Item>, FileErr>

@@ -4,7 +4,7 @@
 // renamed onto its place, and a second barrier makes the names safe. A reader never sees a part of a file. After a
 // failure each place has the old bytes or the new ones, and a temporary file may be left.
 ghost use Rattle.std.specs.Prelude.{◌≢◌, ◌≤◌, IsTrue, [], ◌∷◌};
-ghost use Rattle.file_store.specs.Course.{Goes};
+ghost use Rattle.file_store.specs.Course.{GoesAlong};
 ghost use Rattle.file_store.specs.Replaced.{only, ReplaceEnds, AreApart, IsNoTmp, round_of, replacing};
 ghost use Rattle.file_store.specs.Rounds.{StageEnds, AreReady, MoveEnds};
 ghost use Rattle.file_store.specs.Removed.{Everywhere, removal_of, RemoveAllEnds};
@@ -36,7 +36,7 @@ pub fn replace<F: Files>(
         (F.drive files.new) result }
 
     // Whatever the answer, at each moment the place has the old bytes or the new ones, and a crash leaves no others.
-    ensures crash { IsTrue F.tells → Goes (IsNoTmp (only tmp.now place.now bytes.now))
+    ensures crash { IsTrue F.tells → GoesAlong (IsNoTmp (only tmp.now place.now bytes.now))
         (replacing (only tmp.now place.now bytes.now)) (F.drive files.old) (F.drive files.new) }
 {
     files.write(alloc, tmp, bytes)?;
@@ -54,7 +54,7 @@ pub fn replace_all<F: Files>(
     requires { AreApart list.now }
     ensures later { (F.drive files.old).faults ≤ (F.drive files.new).faults }
     ensures ends { ReplaceEnds F.tells list.now (F.drive files.old) (F.drive files.new) result }
-    ensures crash { IsTrue F.tells → Goes (IsNoTmp list.now) (replacing list.now) (F.drive files.old)
+    ensures crash { IsTrue F.tells → GoesAlong (IsNoTmp list.now) (replacing list.now) (F.drive files.old)
         (F.drive files.new) }
 {
     stage_all(alloc, files, list)?;
@@ -67,7 +67,7 @@ pub fn replace_all<F: Files>(
 fn stage_all<F: Files>(alloc: Global, files: &mut F, list: &[Replacement]) -> Result<(), FileErr>
     ensures later { (F.drive files.old).faults ≤ (F.drive files.new).faults }
     ensures ends { StageEnds F.tells list.now (F.drive files.old) (F.drive files.new) result }
-    ensures crash { IsTrue F.tells → Goes (IsNoTmp list.now) (λ g. []) (F.drive files.old) (F.drive files.new) }
+    ensures crash { IsTrue F.tells → GoesAlong (IsNoTmp list.now) (λ g. []) (F.drive files.old) (F.drive files.new) }
 {
     for replacement in list {
         files.write(alloc, &replacement.tmp, replacement.bytes.as_slice())?;
@@ -81,7 +81,7 @@ fn move_all<F: Files>(alloc: Global, files: &mut F, list: &[Replacement]) -> Res
     requires staged { IsTrue F.tells → AreReady list.now (F.drive files.old) }
     ensures later { (F.drive files.old).faults ≤ (F.drive files.new).faults }
     ensures ends { MoveEnds F.tells list.now (F.drive files.old) (F.drive files.new) result }
-    ensures crash { IsTrue F.tells → Goes (IsNoTmp list.now) (λ g. round_of list.now ∷ []) (F.drive files.old)
+    ensures crash { IsTrue F.tells → GoesAlong (IsNoTmp list.now) (λ g. round_of list.now ∷ []) (F.drive files.old)
         (F.drive files.new) }
 {
     for replacement in list {
@@ -94,7 +94,7 @@ fn move_all<F: Files>(alloc: Global, files: &mut F, list: &[Replacement]) -> Res
 pub fn remove_all<F: Files>(alloc: Global, files: &mut F, list: &[Place]) -> Result<(), FileErr>
     ensures later { (F.drive files.old).faults ≤ (F.drive files.new).faults }
     ensures ends { RemoveAllEnds F.tells list.now (F.drive files.old) (F.drive files.new) result }
-    ensures crash { IsTrue F.tells → Goes Everywhere (λ g. removal_of list.now ∷ []) (F.drive files.old)
+    ensures crash { IsTrue F.tells → GoesAlong Everywhere (λ g. removal_of list.now ∷ []) (F.drive files.old)
         (F.drive files.new) }
 {
     for place in list {

@@ -5,13 +5,14 @@ use Rattle.std.specs.List.{All, flat_map}
 use Rattle.std.proofs.lemmas.List.Elements.{All-nil}
 use Rattle.std.proofs.lemmas.Str.{IsUtf8-nil}
 use Rattle.git_objects.specs.Commits.{parent_line, links_text, commit_text}
-use Rattle.git_objects.specs.CommitLines.{line_text, IsIdLine, NoIdLine, IsPersonLine, NoPersonLine, AreParentLines, IsExtraAndMessage, StopsAt}
+use Rattle.git_objects.specs.CommitLines.{line_text, IsIdLine, NoIdLine, IsPersonLine, NoPersonLine}
+use Rattle.git_objects.specs.CommitLines.{AreParentLines, IsExtraAndMessage, StopsAt}
 use Rattle.git_objects.specs.CommitTexts.{Fields, IsCommitText, Begins, EndsLine, IsBadCommitAt}
 use Rattle.git_objects.specs.Cuts.{newline, Lacks}
 use Rattle.git_objects.specs.Headers.{ended, IsLine, IsExtra}
 use Rattle.git_objects.specs.Ids.{hex_of, IsId}
 use Rattle.git_objects.specs.People.{is_person, is_zone}
-use Rattle.git_objects.specs.Persons.{person_text, IsStored}
+use Rattle.git_objects.specs.Persons.{person_text, IsPersonStored}
 use Rattle.git_objects.specs.declared.ids.Id.{Id}
 use Rattle.git_objects.specs.declared.people.Person.{Person}
 use Rattle.git_objects.proofs.CommitFronts.{people_shape, links_shape, commit_shape, AfterNothing, AfterParents, AfterAuthor, after_nothing, after_parents, after_author, after_extra}
@@ -71,7 +72,7 @@ nobody : Person
 unfolding is_person is_zone
 nobody = record { name = []; email = []; secs = 0; zone = codes "+0000"; valid = refl }
 
-nobody_stored : IsStored nobody
+nobody_stored : IsPersonStored nobody
 unfolding nobody
 nobody_stored = record { name = IsUtf8-nil; email = IsUtf8-nil; size = lit< tt }
 
@@ -103,7 +104,7 @@ linked tree parents author committer extra message =
 value_more : (word value y z : List ℕ) → line_text word value y ++ z ≡ line_text word value (y ++ z)
 value_more word value y z = append_assoc word (value ++ newline ∷ y) z ∙ ap (λ (t : List ℕ). word ++ t) (append_assoc value (newline ∷ y) z)
 
-begins : (front after : List ℕ) (tree : Id) (parents : List Id) (author committer : Person) (extra : List ℕ) → IsId tree.0 → All (λ parent. IsId parent.0) parents → IsStored author → IsStored committer → IsExtra extra
+begins : (front after : List ℕ) (tree : Id) (parents : List Id) (author committer : Person) (extra : List ℕ) → IsId tree.0 → All (λ parent. IsId parent.0) parents → IsPersonStored author → IsPersonStored committer → IsExtra extra
     → front ++ after ≡ links_text tree.0 parents ++ people_shape (person_text author) (person_text committer) (extra ++ newline ∷ []) → Begins front
 begins front after tree parents author committer extra valid ids one two lines same = record {
   fields = record { tree = tree; parents = parents; author = author; committer = committer; extra = extra; message = [] };

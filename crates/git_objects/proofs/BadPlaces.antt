@@ -6,7 +6,7 @@ use Rattle.std.proofs.lemmas.Bool.{cases_lt, eqb-true}
 use Rattle.std.proofs.lemmas.List.Elements.{All-head, All-tail}
 use Rattle.git_objects.specs.CommitTexts.{IsCommitText, EndsLine, IsBadCommitAt}
 use Rattle.git_objects.specs.Cuts.{newline, Lacks}
-use Rattle.git_objects.specs.Decoding.{IsStored, IsBadAt}
+use Rattle.git_objects.specs.Decoding.{IsEntryStored, IsBadAt}
 use Rattle.git_objects.specs.Entries.{entry_text, tree_text, is_tree}
 use Rattle.git_objects.specs.Headers.{ended}
 use Rattle.git_objects.specs.declared.entries.TreeEntry.{TreeEntry}
@@ -104,16 +104,16 @@ record HasMore (short : List TreeEntry) (x : List ℕ) (long : List TreeEntry) (
   split : long ≡ short ++ next ∷ more
   text : x ≡ entry_text next ++ (tree_text more ++ y)
 
-apart : (xs ys : List TreeEntry) (x y : List ℕ) → All IsStored xs → All IsStored ys → is_tree xs ≡ true → is_tree ys ≡ true → tree_text xs ++ x ≡ tree_text ys ++ y → (xs ≡ ys) ⊎ (HasMore xs x ys y ⊎ HasMore ys y xs x)
+apart : (xs ys : List TreeEntry) (x y : List ℕ) → All IsEntryStored xs → All IsEntryStored ys → is_tree xs ≡ true → is_tree ys ≡ true → tree_text xs ++ x ≡ tree_text ys ++ y → (xs ≡ ys) ⊎ (HasMore xs x ys y ⊎ HasMore ys y xs x)
 apart [] [] x y hs ks h k e = inl refl
 apart [] (f ∷ ys) x y hs ks h k e = inr (inl (record { next = f; more = ys; split = refl; text = e ∙ append_assoc (entry_text f) (tree_text ys) y }))
 apart (g ∷ xs) [] x y hs ks h k e = inr (inr (record { next = g; more = xs; split = refl; text = sym e ∙ append_assoc (entry_text g) (tree_text xs) x }))
 apart (g ∷ xs) (f ∷ ys) x y hs ks h k e =
     let one = tree_parts g xs h in
     let two = tree_parts f ys k in
-    let first = entry_once g f (tree_text xs ++ x) (tree_text ys ++ y) (All-head IsStored g xs hs) (All-head IsStored f ys ks) (name_lacks g one.named) (name_lacks f two.named)
+    let first = entry_once g f (tree_text xs ++ x) (tree_text ys ++ y) (All-head IsEntryStored g xs hs) (All-head IsEntryStored f ys ks) (name_lacks g one.named) (name_lacks f two.named)
     (sym (append_assoc (entry_text g) (tree_text xs) x) ∙ e ∙ append_assoc (entry_text f) (tree_text ys) y) in
-    elim (apart xs ys x y (All-tail IsStored g xs hs) (All-tail IsStored f ys ks) one.rest two.rest first.1) [
+    elim (apart xs ys x y (All-tail IsEntryStored g xs hs) (All-tail IsEntryStored f ys ks) one.rest two.rest first.1) [
       | inl same ↦ inl (λ i. first.0 i ∷ same i)
       | inr (inl m) ↦ inr (inl (record { next = m.next; more = m.more; split = λ i. sym first.0 i ∷ m.split i; text = m.text }))
       | inr (inr m) ↦ inr (inr (record { next = m.next; more = m.more; split = λ i. first.0 i ∷ m.split i; text = m.text }))
@@ -121,7 +121,7 @@ apart (g ∷ xs) (f ∷ ys) x y hs ks h k e =
 
 no_more : (body : List ℕ) (m n : ℕ) (a : IsBadAt body m) (b : IsBadAt body n) → HasMore a.entries a.rest b.entries b.rest → ⊥
 no_more body m n a b h =
-    a.none h.next (tree_text h.more ++ b.rest) (stored_at a.entries h.next h.more (subst (λ (z : List TreeEntry). All IsStored z) h.split b.stored))
+    a.none h.next (tree_text h.more ++ b.rest) (stored_at a.entries h.next h.more (subst (λ (z : List TreeEntry). All IsEntryStored z) h.split b.stored))
     (front_tree a.entries h.next h.more (ap is_tree (sym h.split) ∙ b.valid)) h.text
 
 pub tree_place : (body : List ℕ) (m n : ℕ) → IsBadAt body m → IsBadAt body n → m ≡ n

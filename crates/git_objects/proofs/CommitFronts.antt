@@ -10,7 +10,7 @@ use Rattle.git_objects.specs.CommitTexts.{Fields, IsCommitText}
 use Rattle.git_objects.specs.Cuts.{newline, Lacks}
 use Rattle.git_objects.specs.Headers.{ended, IsExtra}
 use Rattle.git_objects.specs.Ids.{hex_of, IsId}
-use Rattle.git_objects.specs.Persons.{person_text, IsStored}
+use Rattle.git_objects.specs.Persons.{person_text, IsPersonStored}
 use Rattle.git_objects.specs.declared.ids.Id.{Id}
 use Rattle.git_objects.specs.declared.people.Person.{Person}
 use Rattle.git_objects.proofs.Cutting.{cut_once}
@@ -54,7 +54,7 @@ pub record IsWordId (word line : List ℕ) : Type 0 where
 
 pub record IsWordPerson (word line : List ℕ) : Type 0 where
   pub person : Person
-  pub stored : IsStored person
+  pub stored : IsPersonStored person
   pub printed : line ≡ word ++ person_text person
 
 -- a line of a parent

@@ -9,7 +9,7 @@ use mathlib.Core.HLevel.{is_prop→PathP}
 use Rattle.git_objects.specs.CommitTexts.{Fields, IsCommitText}
 use Rattle.git_objects.specs.Ids.{hex_of, IsId}
 use Rattle.git_objects.specs.People.{is_person}
-use Rattle.git_objects.specs.Persons.{person_text, IsStored}
+use Rattle.git_objects.specs.Persons.{person_text, IsPersonStored}
 use Rattle.git_objects.specs.declared.ids.Id.{Id}
 use Rattle.git_objects.specs.declared.people.Person.{Person}
 use Rattle.git_objects.proofs.CommitFronts.{people_shape, shaped, ending, IsParent, parent_whole, parent_words, parents_ended, parents_valid, author_other, value_once}
@@ -37,7 +37,7 @@ same_parents (p ∷ ps) (q ∷ qs) h k e =
     let more = same_parents ps qs (All-tail Valid p ps h) (All-tail Valid q qs k) rest in
     λ i. first i ∷ more i
 
-pub person_once : (p q : Person) → IsStored p → IsStored q → person_text p ≡ person_text q → p ≡ q
+pub person_once : (p q : Person) → IsPersonStored p → IsPersonStored q → person_text p ≡ person_text q → p ≡ q
 person_once p q h k e =
     let names = named_once (person_text p) p.name p.email _ q.name q.email _ (person_named (person_text p) p (record { stored = h; printed = refl })) (person_named (person_text p) q (record { stored = k; printed = e })) in
     let moments = moment_once _ p.secs q.secs p.zone q.zone (person_moment p h) (record { printed = names.2; size = k.size; whole = (person_moment q k).whole }) in

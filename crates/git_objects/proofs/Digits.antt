@@ -5,7 +5,9 @@ use Rattle.std.specs.Prelude.{IsOk}
 use Rattle.std.proofs.lemmas.Bool.{and_parts, cases_lt, eqb-true}
 use Rattle.std.proofs.lemmas.Bool.Decides.{nat_tests}
 use Rattle.std.proofs.lemmas.List.Elements.{All-weaker}
-use Rattle.hex.specs.Hex.{IsBytes, decode_of, decode_pairs, decode_sized, digit_or_error, encode_with, hex_digit_value, is_hex_digit, lower_digits, pair_value, value_at, ◌>>=◌}
+use Rattle.hex.specs.Hex.{IsBytes, decode_of, decode_pairs, decode_sized, digit_or_error}
+use Rattle.hex.specs.Hex.{encode_with, hex_digit_value, is_hex_digit, lower_digits, pair_value}
+use Rattle.hex.specs.Hex.{value_at, ◌>>=◌}
 use Rattle.hex.specs.declared.error.FromHexError.{FromHexError}
 use Rattle.hex.proofs.HexLemmas.{IsOk-decode_sized, IsDigits-lower_digits, decode_of-encode_lower, decode_of-even, decode_of-same, decode_pairs-encode_with, decode_sized-twice}
 use Rattle.git_objects.specs.Ids.{hex_of, lowered, IsDigits}

@@ -2,10 +2,10 @@
 use Rattle.std.proofs.Common.{◌≡◌, ℕ, ◌<◌, ◌≤◌, true, cond, List, [], ◌∷◌, ◌++◌, length, get_or, refl, sym, ap, subst, ◌∙◌, arith, append_assoc, length-append}
 use Rattle.std.specs.Prelude.{bytes_eq, IsUtf8}
 use Rattle.std.proofs.lemmas.Bool.{and_parts}
-use Rattle.places.specs.Names.{is_name}
+use Rattle.places.specs.All.{is_name}
 use Rattle.places.proofs.Texts.{not_true}
 use Rattle.git_objects.specs.Cuts.{Lacks, IsCut}
-use Rattle.git_objects.specs.Decoding.{IsStored, IsEntryText, NoMode, NoEntry}
+use Rattle.git_objects.specs.Decoding.{IsEntryStored, IsEntryText, NoMode, NoEntry}
 use Rattle.git_objects.specs.Entries.{mode_text, entry_of, entry_text, is_entry}
 use Rattle.git_objects.specs.declared.entries.Mode.{Mode}
 use Rattle.git_objects.specs.declared.entries.Mode.TheVariants.{File, Exec, Link, Dir, Pin}
@@ -66,7 +66,7 @@ unfolding entry_of
 in_parts e x =
     append_assoc (mode_text e.mode ++ 32 ∷ e.name) (0 ∷ e.id.0) x ∙ append_assoc (mode_text e.mode) (32 ∷ e.name) (0 ∷ (e.id.0 ++ x))
 
-pub entry_once : (e f : TreeEntry) (x y : List ℕ) → IsStored e → IsStored f → Lacks 0 e.name → Lacks 0 f.name → entry_text e ++ x ≡ entry_text f ++ y → (e ≡ f) × (x ≡ y)
+pub entry_once : (e f : TreeEntry) (x y : List ℕ) → IsEntryStored e → IsEntryStored f → Lacks 0 e.name → Lacks 0 f.name → entry_text e ++ x ≡ entry_text f ++ y → (e ≡ f) × (x ≡ y)
 entry_once e f x y h k he hf same =
     let all = sym (in_parts e x) ∙ same ∙ in_parts f y in
     let one = cut_once 32 (mode_text e.mode) (mode_text f.mode) _ _ (no_blank e.mode) (no_blank f.mode) all in

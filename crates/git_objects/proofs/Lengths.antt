@@ -5,7 +5,8 @@ use Rattle.std.specs.Prelude.{slice_index}
 use Rattle.sha1.specs.Sha1.{sha1, digest_bytes}
 use Rattle.hex.specs.Hex.{lower_digits}
 use Rattle.hex.proofs.HexLemmas.{length-encode_with}
-use Rattle.git_objects.specs.Objects.{oid, hex_of}
+use Rattle.git_objects.specs.Kinds.{oid}
+use Rattle.git_objects.specs.Ids.{hex_of}
 use Rattle.git_objects.specs.declared.objects.ObjKind.{ObjKind}
 
 length-digest_bytes : (h : List ℕ) (n : ℕ) → length (digest_bytes h n) ≡ n * 4

@@ -9,8 +9,9 @@ use Rattle.std.proofs.lemmas.List.{append_cancel_right}
 use Rattle.std.proofs.lemmas.List.Folds.{list_any-append}
 use Rattle.git_objects.specs.Cuts.{newline, Lacks, IsCut}
 use Rattle.git_objects.specs.Numbers.{number_text, IsNumber}
-use Rattle.git_objects.specs.People.{is_plain, is_zone, is_person, person_of, named_text, IsNamedText, NoNamedText, IsMoment, NoMoment}
-use Rattle.git_objects.specs.Persons.{person_text, IsStored, IsPersonText, IsNoPersonText}
+use Rattle.git_objects.specs.People.{is_plain, is_zone, is_person, person_of, named_text}
+use Rattle.git_objects.specs.People.{IsNamedText, NoNamedText, IsMoment, NoMoment}
+use Rattle.git_objects.specs.Persons.{person_text, IsPersonStored, IsPersonText, IsNoPersonText}
 use Rattle.git_objects.specs.declared.people.Person.{Person}
 use Rattle.git_objects.proofs.Cutting.{cut_once, lacks_none}
 use Rattle.git_objects.proofs.Decimals.{number_lacks}
@@ -159,7 +160,7 @@ zone_size zone h =
     let outer = and_parts ((length zone == 5) && (slice_index zone 0 == 43 || slice_index zone 0 == 45)) (list_all is_ascii_digit (drop 1 zone)) h in
     eqb-true (length zone) 5 (and_parts (length zone == 5) (slice_index zone 0 == 43 || slice_index zone 0 == 45) outer.0).0
 
-pub person_moment : (person : Person) → IsStored person → IsMoment (number_text person.secs ++ 32 ∷ person.zone) person.secs person.zone
+pub person_moment : (person : Person) → IsPersonStored person → IsMoment (number_text person.secs ++ 32 ∷ person.zone) person.secs person.zone
 person_moment person h = record { printed = refl; size = h.size; whole = zone_size person.zone (person_parts person).zone }
 
 pub unnamed : (text : List ℕ) → NoNamedText text → IsNoPersonText text

@@ -8,7 +8,7 @@ use Rattle.std.proofs.lemmas.List.{append_cancel_left, append_cancel_right}
 use Rattle.std.proofs.lemmas.List.Sums.{fails_before_first}
 use Rattle.std.proofs.lemmas.Slice.Eq.{bytes_eq-Decides}
 use Rattle.std.proofs.Math.Seq.{get_or-append_seam}
-use Rattle.git_objects.specs.Kinds.{kind_text, header_of, text_of}
+use Rattle.git_objects.specs.Kinds.{kind_text, header_of, text_of_object}
 use Rattle.git_objects.specs.Readings.{is_nul, after_nul, is_text_of, is_object_text, IsNoHeader}
 use Rattle.git_objects.specs.declared.objects.ObjKind.{ObjKind}
 use Rattle.git_objects.specs.declared.objects.ObjKind.TheVariants.{Blob, Tree, Commit, Tag}
@@ -43,7 +43,7 @@ some_kind text Tag h =
     ∙ ap (λ b. is_text_of Blob text || (is_text_of Tree text || b)) (or_true (is_text_of Commit text))
     ∙ ap (λ b. is_text_of Blob text || b) (or_true (is_text_of Tree text)) ∙ or_true (is_text_of Blob text)
 
-differs : (text : List ℕ) (kind : ObjKind) → (text ≡ text_of kind (after_nul text) → ⊥) → is_text_of kind text ≡ false
+differs : (text : List ℕ) (kind : ObjKind) → (text ≡ text_of_object kind (after_nul text) → ⊥) → is_text_of kind text ≡ false
 differs text kind h = false_from_ne_true _ (λ e. h ((bytes_eq-Decides text _).0 e))
 
 -- A TEXT WITHOUT NUL
@@ -77,7 +77,7 @@ after_position text k h = ap (λ (n : ℕ). drop (n + 1) text) (position_some te
 
 pub other_header : (text header body : List ℕ) → text ≡ header ++ body → after_nul text ≡ body → IsNoHeader header (length body) → is_object_text text ≡ false
 other_header text header body cut after none = no_kind text (λ kind. differs text kind (λ e.
-    none kind (append_cancel_right header (header_of kind (length body)) body (sym cut ∙ e ∙ ap (text_of kind) after))))
+    none kind (append_cancel_right header (header_of kind (length body)) body (sym cut ∙ e ∙ ap (text_of_object kind) after))))
 
-pub object_text : (text body : List ℕ) (kind : ObjKind) → text ≡ text_of kind body → after_nul text ≡ body → is_object_text text ≡ true
-object_text text body kind e after = some_kind text kind ((bytes_eq-Decides text _).1 (e ∙ ap (text_of kind) (sym after)))
+pub object_text : (text body : List ℕ) (kind : ObjKind) → text ≡ text_of_object kind body → after_nul text ≡ body → is_object_text text ≡ true
+object_text text body kind e after = some_kind text kind ((bytes_eq-Decides text _).1 (e ∙ ap (text_of_object kind) (sym after)))

@@ -10,9 +10,10 @@ use Rattle.std.proofs.lemmas.Bool.{and_parts}
 use Rattle.std.proofs.lemmas.Cmp.{nat_list_cmp_total, tied_itself}
 use Rattle.std.proofs.lemmas.List.Folds.{list_any-append, list_all-append}
 use Rattle.std.proofs.lemmas.Slice.Eq.{bytes_eq-Decides}
-use Rattle.places.specs.Names.{slash, is_name}
+use Rattle.places.specs.All.{slash, is_name}
 use Rattle.places.proofs.Texts.{facts, or_neither, not_true}
-use Rattle.git_objects.specs.Entries.{is_dir, name_end, sort_key, is_entry, is_below, is_before, is_tree}
+use Rattle.git_objects.specs.Entries.{is_dir, name_end, sort_key, is_entry, sorts_below, is_before}
+use Rattle.git_objects.specs.Entries.{is_tree}
 use Rattle.git_objects.specs.Sorted.{IsAscending, has_key, is_twin, has_twins}
 use Rattle.git_objects.specs.declared.entries.TreeEntry.{TreeEntry}
 
@@ -60,7 +61,7 @@ less_is Less h = refl
 less_is Equal h = absurd (cc h)
 less_is Greater h = absurd (cc h)
 
-below_trans : (a b c : TreeEntry) → is_below a b ≡ true → is_below b c ≡ true → is_below a c ≡ true
+below_trans : (a b c : TreeEntry) → sorts_below a b ≡ true → sorts_below b c ≡ true → sorts_below a c ≡ true
 below_trans a b c h k =
     ap is_lt (nat_list_cmp_total.trans (sort_key a) (sort_key b) (sort_key c) (less_is (slice_cmp nat_cmp (sort_key a) (sort_key b)) h) (less_is (slice_cmp nat_cmp (sort_key b) (sort_key c)) k))
 
@@ -72,16 +73,16 @@ ascending_tail e es h k d lt =
     let up : suc k + 1 ≡ suc (k + 1) = omega arith in
     rw up at (h (suc k) d (omega arith))
 
-ascending_first : (e f : TreeEntry) (es : List TreeEntry) → IsAscending (e ∷ f ∷ es) → is_below e f ≡ true
+ascending_first : (e f : TreeEntry) (es : List TreeEntry) → IsAscending (e ∷ f ∷ es) → sorts_below e f ≡ true
 ascending_first e f es h = h 0 e (omega arith)
 
 -- each entry is below all that follow
-above_all : (e : TreeEntry) (es : List TreeEntry) → IsAscending (e ∷ es) → list_all (is_below e) es ≡ true
+above_all : (e : TreeEntry) (es : List TreeEntry) → IsAscending (e ∷ es) → list_all (sorts_below e) es ≡ true
 above_all e [] h = refl
 above_all e (f ∷ es) h =
     let first = ascending_first e f es h in
-    both (is_below e f) (list_all (is_below e) es) first
-    (all_weaker (is_below f) (is_below e) (λ g k. below_trans e f g first k) es (above_all f es (ascending_tail e (f ∷ es) h)))
+    both (sorts_below e f) (list_all (sorts_below e) es) first
+    (all_weaker (sorts_below f) (sorts_below e) (λ g k. below_trans e f g first k) es (above_all f es (ascending_tail e (f ∷ es) h)))
 
 -- ---- entries that pass the tests make a tree
 
@@ -99,7 +100,7 @@ kinds_of_one_name true false n m e h = absurd (longer n (subst (λ (z : List ℕ
     longer [] k = cc k
     longer (x ∷ xs) k = longer xs (rw (step x Equal) at k)
 
-pair_apart : (all : List TreeEntry) (e f : TreeEntry) → is_below e f ≡ true → is_twin all f ≡ false → has_key (sort_key e) all ≡ true → bytes_eq e.name f.name ≡ false
+pair_apart : (all : List TreeEntry) (e f : TreeEntry) → sorts_below e f ≡ true → is_twin all f ≡ false → has_key (sort_key e) all ≡ true → bytes_eq e.name f.name ≡ false
 pair_apart all e f below twin there =
     by_truth (bytes_eq e.name f.name)
     (λ same.
@@ -109,13 +110,13 @@ pair_apart all e f below twin there =
     never (is_twin all f) (both (is_dir f.mode) (has_key f.name all) kinds.1 (ap (λ (z : List ℕ). has_key z all) (sym key) ∙ there)) twin)
     (λ differ. differ)
 
-all_before : (all : List TreeEntry) (e : TreeEntry) (es : List TreeEntry) → list_all (is_below e) es ≡ true → list_any (is_twin all) es ≡ false → has_key (sort_key e) all ≡ true → list_all (is_before e) es ≡ true
+all_before : (all : List TreeEntry) (e : TreeEntry) (es : List TreeEntry) → list_all (sorts_below e) es ≡ true → list_any (is_twin all) es ≡ false → has_key (sort_key e) all ≡ true → list_all (is_before e) es ≡ true
 all_before all e [] below twins there = refl
 all_before all e (f ∷ es) below twins there =
-    let first = and_parts (is_below e f) (list_all (is_below e) es) below in
+    let first = and_parts (sorts_below e f) (list_all (sorts_below e) es) below in
     let single = or_neither (is_twin all f) (list_any (is_twin all) es) twins in
     both (is_before e f) (list_all (is_before e) es)
-    (both (is_below e f) (not (bytes_eq e.name f.name)) first.0 (not_false (bytes_eq e.name f.name) (pair_apart all e f first.0 single.0 there)))
+    (both (sorts_below e f) (not (bytes_eq e.name f.name)) first.0 (not_false (bytes_eq e.name f.name) (pair_apart all e f first.0 single.0 there)))
     (all_before all e es first.1 single.1 there)
 
 some_first : (a b : Bool) → a ≡ true → (a || b) ≡ true
@@ -164,7 +165,7 @@ ascending_from_tree [] h k d lt = absurd (omega arith)
 ascending_from_tree (e ∷ []) h k d lt = absurd (omega arith)
 ascending_from_tree (e ∷ f ∷ es) h zero d lt =
     let first = and_parts (is_before e f) (list_all (is_before e) es) (tree_parts e (f ∷ es) h).before in
-    (and_parts (is_below e f) (not (bytes_eq e.name f.name)) first.0).0
+    (and_parts (sorts_below e f) (not (bytes_eq e.name f.name)) first.0).0
 ascending_from_tree (e ∷ f ∷ es) h (suc k) d lt =
     let up : suc k + 1 ≡ suc (k + 1) = omega arith in
     rw up (ascending_from_tree (f ∷ es) (tree_parts e (f ∷ es) h).rest k d (omega arith))
@@ -191,7 +192,7 @@ own_key true name e h =
 
 pub names_differ : (e f : TreeEntry) → is_before e f ≡ true → e.name ≡ f.name → ⊥
 names_differ e f h same =
-    let parts = and_parts (is_below e f) (not (bytes_eq e.name f.name)) h in
+    let parts = and_parts (sorts_below e f) (not (bytes_eq e.name f.name)) h in
     never (bytes_eq e.name f.name) (bytes_same e.name f.name same) (not_true (bytes_eq e.name f.name) parts.1)
 
 -- no later entry is sorted by an earlier one's name
@@ -241,32 +242,32 @@ tree_by_twins es named ascending =
     (λ twins. ap not twins ∙ by_truth (is_tree es) (λ tree. never (has_twins es) twins (no_twins_from_tree es tree)) sym)
     (λ none. ap not none ∙ sym (tree_from_tests es named ascending none))
 
-pub ascending_answer : (es : List TreeEntry) (r : Bool) → IsAllAdjacentAnswer (λ x y b. b ≡ is_below x y) es r → IsTrue r ↔ IsAscending es
+pub ascending_answer : (es : List TreeEntry) (r : Bool) → IsAllAdjacentAnswer (λ x y b. b ≡ sorts_below x y) es r → IsTrue r ↔ IsAscending es
 ascending_answer es true h = (λ t k d lt. sym (h k d lt), λ up. refl)
 ascending_answer [] false h = (λ t. cc t, λ up. absurd (omega (arith, h.1)))
-ascending_answer (e ∷ es) false h = (λ t. cc t, λ up. never (is_below (get_or (e ∷ es) h.0 e) (get_or (e ∷ es) (h.0 + 1) e)) (up h.0 e h.1) (sym (h.2 e)))
+ascending_answer (e ∷ es) false h = (λ t. cc t, λ up. never (sorts_below (get_or (e ∷ es) h.0 e) (get_or (e ∷ es) (h.0 + 1) e)) (up h.0 e h.1) (sym (h.2 e)))
 
 -- ---- one more entry
 
 -- it is after all where it is after the last one
-pub below_last : (es : List TreeEntry) (last e d : TreeEntry) → is_tree es ≡ true → last ≡ get_or es (length es - 1) d → is_below last e ≡ true → list_all (λ f. is_below f e) es ≡ true
+pub below_last : (es : List TreeEntry) (last e d : TreeEntry) → is_tree es ≡ true → last ≡ get_or es (length es - 1) d → sorts_below last e ≡ true → list_all (λ f. sorts_below f e) es ≡ true
 below_last [] last e d h is below = refl
-below_last (f ∷ []) last e d h is below = both (is_below f e) true (ap (λ (z : TreeEntry). is_below z e) (sym is) ∙ below) refl
+below_last (f ∷ []) last e d h is below = both (sorts_below f e) true (ap (λ (z : TreeEntry). sorts_below z e) (sym is) ∙ below) refl
 below_last (f ∷ g ∷ es) last e d h is below =
     let parts = tree_parts f (g ∷ es) h in
-    let first = (and_parts (is_below f g) (not (bytes_eq f.name g.name)) (and_parts (is_before f g) (list_all (is_before f) es) parts.before).0).0 in
+    let first = (and_parts (sorts_below f g) (not (bytes_eq f.name g.name)) (and_parts (is_before f g) (list_all (is_before f) es) parts.before).0).0 in
     let n : suc (suc (length es)) - 1 ≡ suc (suc (length es) - 1) = omega arith in
     let more = below_last (g ∷ es) last e d parts.rest (is ∙ ap (λ (k : ℕ). get_or (f ∷ g ∷ es) k d) n) below in
-    both (is_below f e) (list_all (λ f. is_below f e) (g ∷ es)) (below_trans f g e first (and_parts (is_below g e) (list_all (λ f. is_below f e) es) more).0) more
+    both (sorts_below f e) (list_all (λ f. sorts_below f e) (g ∷ es)) (below_trans f g e first (and_parts (sorts_below g e) (list_all (λ f. sorts_below f e) es) more).0) more
 
 pub before_from_below : (all es : List TreeEntry) (e : TreeEntry) → ((key : List ℕ) → has_key key es ≡ true → has_key key all ≡ true)
-    → list_all (λ f. is_below f e) es ≡ true → is_twin all e ≡ false → list_all (λ f. is_before f e) es ≡ true
+    → list_all (λ f. sorts_below f e) es ≡ true → is_twin all e ≡ false → list_all (λ f. is_before f e) es ≡ true
 before_from_below all [] e within below twin = refl
 before_from_below all (f ∷ es) e within below twin =
-    let p = and_parts (is_below f e) (list_all (λ f. is_below f e) es) below in
+    let p = and_parts (sorts_below f e) (list_all (λ f. sorts_below f e) es) below in
     let there = within (sort_key f) (some_first (bytes_eq (sort_key f) (sort_key f)) (has_key (sort_key f) es) (bytes_same (sort_key f) (sort_key f) refl)) in
     both (is_before f e) (list_all (λ f. is_before f e) es)
-    (both (is_below f e) (not (bytes_eq f.name e.name)) p.0 (not_false (bytes_eq f.name e.name) (pair_apart all f e p.0 twin there)))
+    (both (sorts_below f e) (not (bytes_eq f.name e.name)) p.0 (not_false (bytes_eq f.name e.name) (pair_apart all f e p.0 twin there)))
     (before_from_below all es e (λ key k. within key (some_later (bytes_eq (sort_key f) key) (has_key key es) k)) p.1 twin)
 
 pub tree_push : (es : List TreeEntry) (e : TreeEntry) → is_tree es ≡ true → is_entry e ≡ true → list_all (λ f. is_before f e) es ≡ true → is_tree (es ++ e ∷ []) ≡ true
@@ -302,11 +303,11 @@ no_key_before (f ∷ es) e named before =
     neither (bytes_eq (sort_key f) e.name) (has_key e.name es)
     (bytes_differ (sort_key f) e.name (key_apart (is_dir f.mode) f.name e named (names_differ f e p.0))) (no_key_before es e named p.1)
 
-last_below : (es : List TreeEntry) (last e d : TreeEntry) → 0 < length es → last ≡ get_or es (length es - 1) d → list_all (λ f. is_before f e) es ≡ true → is_below last e ≡ true
+last_below : (es : List TreeEntry) (last e d : TreeEntry) → 0 < length es → last ≡ get_or es (length es - 1) d → list_all (λ f. is_before f e) es ≡ true → sorts_below last e ≡ true
 last_below [] last e d some is h = absurd (omega arith)
 last_below (f ∷ []) last e d some is h =
     let p = and_parts (is_before f e) true h in
-    ap (λ (z : TreeEntry). is_below z e) is ∙ (and_parts (is_below f e) (not (bytes_eq f.name e.name)) p.0).0
+    ap (λ (z : TreeEntry). sorts_below z e) is ∙ (and_parts (sorts_below f e) (not (bytes_eq f.name e.name)) p.0).0
 last_below (f ∷ g ∷ es) last e d some is h =
     let n : suc (suc (length es)) - 1 ≡ suc (suc (length es) - 1) = omega arith in
     last_below (g ∷ es) last e d (omega arith) (is ∙ ap (λ (k : ℕ). get_or (f ∷ g ∷ es) k d) n) (and_parts (is_before f e) (list_all (λ f. is_before f e) (g ∷ es)) h).1
@@ -315,20 +316,20 @@ last_below (f ∷ g ∷ es) last e d some is h =
 pub push_unnamed : (es : List TreeEntry) (e : TreeEntry) → is_entry e ≡ false → false ≡ is_tree (es ++ e ∷ [])
 push_unnamed es e h = by_truth (is_tree (es ++ e ∷ [])) (λ t. never (is_entry e) (tree_pushed es e t).named h) sym
 
-pub push_test : (es : List TreeEntry) (last e d : TreeEntry) → is_tree es ≡ true → is_entry e ≡ true → 0 < length es → last ≡ get_or es (length es - 1) d → (is_below last e && not (is_twin es e)) ≡ is_tree (es ++ e ∷ [])
+pub push_test : (es : List TreeEntry) (last e d : TreeEntry) → is_tree es ≡ true → is_entry e ≡ true → 0 < length es → last ≡ get_or es (length es - 1) d → (sorts_below last e && not (is_twin es e)) ≡ is_tree (es ++ e ∷ [])
 push_test es last e d tree named some is =
-    by_truth (is_below last e)
+    by_truth (sorts_below last e)
     (λ below. by_truth (is_twin es e)
     (λ twin. by_truth (is_tree (es ++ e ∷ []))
     (λ t. never (has_key e.name es) (and_parts (is_dir e.mode) (has_key e.name es) twin).1 (no_key_before es e named (tree_pushed es e t).before))
     (λ f. (λ i. below i && not (twin i)) ∙ sym f))
     (λ single. (λ i. below i && not (single i)) ∙ sym (tree_push es e tree named (before_from_below es es e (λ key k. k) (below_last es last e d tree is below) single))))
     (λ above. by_truth (is_tree (es ++ e ∷ []))
-    (λ t. never (is_below last e) (last_below es last e d some is (tree_pushed es e t).before) above)
+    (λ t. never (sorts_below last e) (last_below es last e d some is (tree_pushed es e t).before) above)
     (λ f. (λ i. above i && not (is_twin es e)) ∙ sym f))
 
-pub push_above : (es : List TreeEntry) (last e d : TreeEntry) → is_tree es ≡ true → is_entry e ≡ true → 0 < length es → last ≡ get_or es (length es - 1) d → is_below last e ≡ false → false ≡ is_tree (es ++ e ∷ [])
+pub push_above : (es : List TreeEntry) (last e d : TreeEntry) → is_tree es ≡ true → is_entry e ≡ true → 0 < length es → last ≡ get_or es (length es - 1) d → sorts_below last e ≡ false → false ≡ is_tree (es ++ e ∷ [])
 push_above es last e d tree named some is above = sym (ap (λ b. b && not (is_twin es e)) above) ∙ push_test es last e d tree named some is
 
-pub push_alone : (es : List TreeEntry) (last e d : TreeEntry) → is_tree es ≡ true → is_entry e ≡ true → 0 < length es → last ≡ get_or es (length es - 1) d → is_below last e ≡ true → not (is_twin es e) ≡ is_tree (es ++ e ∷ [])
+pub push_alone : (es : List TreeEntry) (last e d : TreeEntry) → is_tree es ≡ true → is_entry e ≡ true → 0 < length es → last ≡ get_or es (length es - 1) d → sorts_below last e ≡ true → not (is_twin es e) ≡ is_tree (es ++ e ∷ [])
 push_alone es last e d tree named some is below = sym (ap (λ b. b && not (is_twin es e)) below) ∙ push_test es last e d tree named some is

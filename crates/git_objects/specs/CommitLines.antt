@@ -5,7 +5,7 @@ use Rattle.git_objects.specs.Commits.{parent_line}
 use Rattle.git_objects.specs.Cuts.{newline, Lacks}
 use Rattle.git_objects.specs.Headers.{ended, IsExtra}
 use Rattle.git_objects.specs.Ids.{hex_of, IsId}
-use Rattle.git_objects.specs.Persons.{person_text, IsStored}
+use Rattle.git_objects.specs.Persons.{person_text, IsPersonStored}
 use Rattle.git_objects.specs.declared.ids.Id.{Id}
 use Rattle.git_objects.specs.declared.people.Person.{Person}
 
@@ -24,7 +24,7 @@ NoIdLine text word = (id : Id) (after : List ℕ) → IsIdLine text word id afte
 
 -- A line of a person stands at the front.
 pub record IsPersonLine (text word : List ℕ) (person : Person) (after : List ℕ) : Type 0 where
-  pub stored : IsStored person
+  pub stored : IsPersonStored person
   pub printed : text ≡ line_text word (person_text person) after
 
 -- No line of a person does.

@@ -5,7 +5,7 @@ use Rattle.git_objects.specs.Commits.{commit_text}
 use Rattle.git_objects.specs.Cuts.{newline, Lacks}
 use Rattle.git_objects.specs.Headers.{ended, IsExtra}
 use Rattle.git_objects.specs.Ids.{IsId}
-use Rattle.git_objects.specs.Persons.{person_text, IsStored}
+use Rattle.git_objects.specs.Persons.{person_text, IsPersonStored}
 use Rattle.git_objects.specs.declared.commits.Commit.{Commit}
 use Rattle.git_objects.specs.declared.ids.Id.{Id}
 use Rattle.git_objects.specs.declared.people.Person.{Person}
@@ -34,8 +34,8 @@ fields_of commit = record {
 pub record IsCommitText (body : List ℕ) (fields : Fields) : Type 0 where
   pub tree : IsId fields.tree.0
   pub parents : All (λ parent. IsId parent.0) fields.parents
-  pub author : IsStored fields.author
-  pub committer : IsStored fields.committer
+  pub author : IsPersonStored fields.author
+  pub committer : IsPersonStored fields.committer
   pub extra : IsExtra fields.extra
   pub text : body ≡ commit_text fields.tree.0 fields.parents
       (person_text fields.author) (person_text fields.committer) fields.extra fields.message

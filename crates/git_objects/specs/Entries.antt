@@ -3,7 +3,7 @@ use Rattle.std.specs.Prelude.{ℕ, Bool, true, false, not, ◌&&◌, List, [], �
 use Rattle.std.specs.List.{flat_map, list_all}
 use Rattle.std.specs.Cmp.Lexicographic.{slice_cmp}
 use Rattle.std.specs.Ordering.{nat_cmp, is_lt}
-use Rattle.places.specs.Names.{slash, is_name}
+use Rattle.places.specs.All.{slash, is_name}
 use Rattle.git_objects.specs.declared.entries.Mode.{Mode}
 use Rattle.git_objects.specs.declared.entries.Mode.TheVariants.{File, Exec, Link, Dir, Pin}
 use Rattle.git_objects.specs.declared.entries.TreeEntry.{TreeEntry}
@@ -53,12 +53,12 @@ abbrev pub sort_key : TreeEntry → List ℕ
 sort_key entry = entry.name ++ name_end (is_dir entry.mode)
 
 -- An entry's bytes are below another one's.
-abbrev pub is_below : TreeEntry → TreeEntry → Bool
-is_below earlier later = is_lt (slice_cmp nat_cmp (sort_key earlier) (sort_key later))
+abbrev pub sorts_below : TreeEntry → TreeEntry → Bool
+sorts_below earlier later = is_lt (slice_cmp nat_cmp (sort_key earlier) (sort_key later))
 
 -- An entry may stand anywhere before another one.
 abbrev pub is_before : TreeEntry → TreeEntry → Bool
-is_before earlier later = is_below earlier later && not (bytes_eq earlier.name later.name)
+is_before earlier later = sorts_below earlier later && not (bytes_eq earlier.name later.name)
 
 -- Valid names, in order, and each once.
 abbrev pub is_tree : List TreeEntry → Bool

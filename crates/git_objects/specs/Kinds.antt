@@ -17,9 +17,9 @@ abbrev pub header_of : ObjKind → ℕ → List ℕ
 header_of kind size = kind_text kind ++ 32 ∷ number_text size ++ 0 ∷ []
 
 -- An object's text.
-abbrev pub text_of : ObjKind → List ℕ → List ℕ
-text_of kind body = header_of kind (length body) ++ body
+abbrev pub text_of_object : ObjKind → List ℕ → List ℕ
+text_of_object kind body = header_of kind (length body) ++ body
 
 -- An object's id: the SHA-1 of its text.
 unfoldable pub oid : ObjKind → List ℕ → List ℕ
-oid kind body = sha1 (text_of kind body)
+oid kind body = sha1 (text_of_object kind body)

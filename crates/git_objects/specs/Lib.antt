@@ -1,3 +1,4 @@
+pub mod All
 pub mod CommitLines
 pub mod CommitTexts
 pub mod Commits
@@ -10,7 +11,6 @@ pub mod Ids
 pub mod Kinds
 pub mod Laws
 pub mod Numbers
-pub mod Objects
 pub mod People
 pub mod Persons
 pub mod Readings

@@ -9,14 +9,14 @@ person_text person = person_of person.name person.email person.secs person.zone
 
 -- What a person keeps beside a valid name, email and zone: both texts are UTF-8, and the seconds
 -- have at most 64 bits.
-pub record IsStored (person : Person) : Type 0 where
+pub record IsPersonStored (person : Person) : Type 0 where
   pub name : IsUtf8 person.name
   pub email : IsUtf8 person.email
   pub size : person.secs < 2 ^ 64
 
 -- The grammar.
 pub record IsPersonText (text : List ℕ) (person : Person) : Type 0 where
-  pub stored : IsStored person
+  pub stored : IsPersonStored person
   pub printed : text ≡ person_text person
 
 -- The text of no person.

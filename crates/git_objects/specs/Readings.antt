@@ -2,7 +2,7 @@
 use Rattle.std.specs.Prelude.{◌≡◌, ℕ, Bool, ◌==◌, ◌||◌, List, Option, Some, None}
 use Rattle.std.specs.Prelude.{bytes_eq, if◌then◌else◌}
 use Rattle.std.specs.List.{after_first}
-use Rattle.git_objects.specs.Kinds.{header_of, text_of}
+use Rattle.git_objects.specs.Kinds.{header_of, text_of_object}
 use Rattle.git_objects.specs.declared.objects.ObjKind.{ObjKind}
 use Rattle.git_objects.specs.declared.objects.ObjKind.TheVariants.{Blob, Tree, Commit, Tag}
 
@@ -16,7 +16,7 @@ after_nul text = after_first is_nul text
 
 -- The text of an object of this kind, with the body that follows its first NUL.
 abbrev pub is_text_of : ObjKind → List ℕ → Bool
-is_text_of kind text = bytes_eq text (text_of kind (after_nul text))
+is_text_of kind text = bytes_eq text (text_of_object kind (after_nul text))
 
 -- The text of an object of some kind.
 unfoldable pub is_object_text : List ℕ → Bool

@@ -1,13 +1,13 @@
 -- A list of entries is tested in the order of its keys, and not pair by pair.
 use Rattle.std.specs.Prelude.{◌≡◌, ℕ, Bool, true, ◌&&◌, List, length, bytes_eq}
 use Rattle.std.specs.List.{AllAdjacentBelow, list_any}
-use Rattle.git_objects.specs.Entries.{is_dir, sort_key, is_below}
+use Rattle.git_objects.specs.Entries.{is_dir, sort_key, sorts_below}
 use Rattle.git_objects.specs.declared.entries.TreeEntry.{TreeEntry}
 
 -- Each entry is below the next one.
 abbrev pub IsAscending : List TreeEntry → Type 0
 IsAscending entries =
-    AllAdjacentBelow (λ one next. is_below one next ≡ true) entries (length entries)
+    AllAdjacentBelow (λ one next. sorts_below one next ≡ true) entries (length entries)
 
 -- An entry is sorted by this text.
 abbrev pub has_key : List ℕ → List TreeEntry → Bool

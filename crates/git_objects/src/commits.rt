@@ -4,7 +4,7 @@ ghost use Rattle.std.specs.List.{All};
 ghost use Rattle.git_objects.specs.Headers.{is_extra};
 ghost use Rattle.git_objects.specs.Commits.{people_text, links_text, parent_line};
 ghost use Rattle.git_objects.specs.Ids.{IsId};
-ghost use Rattle.git_objects.specs.Persons.{person_text, IsStored};
+ghost use Rattle.git_objects.specs.Persons.{person_text, IsPersonStored};
 ghost use Rattle.git_objects.specs.declared.errors.ObjErr.TheVariants.{NoMemory};
 
 use crate::errors::ObjErr;
@@ -32,8 +32,8 @@ impl Commit {
     fn append_people(&self, body: &mut Vec<u8>) -> Result<(), AllocError>
         ensures text { OnOk result (body.new.items ≡ body.old.items
             ++ people_text (person_text self.now.author) (person_text self.now.committer)) }
-        ensures author { OnOk result (IsStored self.now.author) }
-        ensures committer { OnOk result (IsStored self.now.committer) }
+        ensures author { OnOk result (IsPersonStored self.now.author) }
+        ensures committer { OnOk result (IsPersonStored self.now.committer) }
     {
         body.extend_from_slice(b"author ")?;
         self.author.append_to(body)?;

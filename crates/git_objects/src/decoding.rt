@@ -86,7 +86,7 @@ fn may_follow(entries: &[TreeEntry], entry: &TreeEntry) -> bool
     let Some(last) = entries.last() else {
         return true;
     };
-    if !last.is_below(entry) {
+    if !last.sorts_below(entry) {
         return false;
     }
     !is_twin(entries, entry)

@@ -55,13 +55,13 @@ impl Mode {
 }
 
 impl TreeEntry {
-    ghost use Rattle.git_objects.specs.Decoding.{IsStored};
-    ghost use Rattle.git_objects.specs.Entries.{entry_text, is_entry, is_below, sort_key};
+    ghost use Rattle.git_objects.specs.Decoding.{IsEntryStored};
+    ghost use Rattle.git_objects.specs.Entries.{entry_text, is_entry, sorts_below, sort_key};
 
     #[tactic(auto, unfolding(crate::specs::Entries::entry_of))]
     pub(crate) fn append_to(&self, body: &mut Vec<u8>) -> Result<(), AllocError>
         ensures text { OnOk result (body.new.items ≡ body.old.items ++ entry_text self.now) }
-        ensures stored { OnOk result (IsStored self.now) }
+        ensures stored { OnOk result (IsEntryStored self.now) }
     {
         body.extend_from_slice(self.mode.digits().as_bytes())?;
         body.extend_from_slice(b" ")?;
@@ -89,8 +89,8 @@ impl TreeEntry {
             .cmp(key.iter())
     }
 
-    pub(crate) fn is_below(&self, next: &TreeEntry) -> bool
-        ensures { result ≡ is_below self.now next.now }
+    pub(crate) fn sorts_below(&self, next: &TreeEntry) -> bool
+        ensures { result ≡ sorts_below self.now next.now }
     {
         let one = self.name.as_str().as_bytes();
         let two = next.name.as_str().as_bytes();

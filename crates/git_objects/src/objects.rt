@@ -1,6 +1,6 @@
 // Kinds of objects, and the text and the id of an object of any kind.
 ghost use Rattle.std.specs.Prelude.{◌≡◌, ◌++◌, MatchResult};
-ghost use Rattle.git_objects.specs.Kinds.{kind_text, text_of, oid};
+ghost use Rattle.git_objects.specs.Kinds.{kind_text, text_of_object, oid};
 ghost use Rattle.git_objects.specs.declared.objects.ObjKind.TheVariants.{Blob};
 ghost use Rattle.git_objects.specs.declared.errors.ObjErr.TheVariants.{NoMemory};
 
@@ -55,7 +55,7 @@ pub fn blob_id(bytes: &[u8]) -> Id
 
 /// The text that an object is stored as.
 pub fn object_text(alloc: Global, kind: ObjKind, body: &[u8]) -> Result<Vec<u8>, ObjErr>
-    ensures { MatchResult result (λ t. t.items ≡ text_of kind body.now) (λ e. e ≡ NoMemory) }
+    ensures { MatchResult result (λ t. t.items ≡ text_of_object kind body.now) (λ e. e ≡ NoMemory) }
 {
     let mut buffer = Buffer::new();
     let length = buffer.format(body.len());

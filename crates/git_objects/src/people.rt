@@ -76,13 +76,13 @@ fn read_moment(text: &[u8]) -> Option<(u64, &[u8; 5])>
 }
 
 impl Person {
-    ghost use Rattle.git_objects.specs.Persons.{person_text, IsStored};
+    ghost use Rattle.git_objects.specs.Persons.{person_text, IsPersonStored};
     ghost use Rattle.git_objects.specs.Persons.{IsPersonText, IsNoPersonText};
 
     #[tactic(auto, unfolding(crate::specs::People::person_of))]
     pub(crate) fn append_to(&self, body: &mut Vec<u8>) -> Result<(), AllocError>
         ensures text { OnOk result (body.new.items ≡ body.old.items ++ person_text self.now) }
-        ensures stored { OnOk result (IsStored self.now) }
+        ensures stored { OnOk result (IsPersonStored self.now) }
     {
         let mut buffer = Buffer::new();
         body.extend_from_slice(self.name.as_str().as_bytes())?;

@@ -1,7 +1,7 @@
 // Reading an object's text.
 ghost use Rattle.std.specs.Prelude.{◌≡◌, ◌↔◌, ◌≤◌, ⊤, ℕ, List, Some, IsTrue, length, drop};
 ghost use Rattle.std.specs.Prelude.{is_some, MatchOption};
-ghost use Rattle.git_objects.specs.Kinds.{header_of, text_of};
+ghost use Rattle.git_objects.specs.Kinds.{header_of, text_of_object};
 ghost use Rattle.git_objects.specs.Readings.{is_object_text, IsNoHeader};
 
 use crate::cuts::{place_of, without_front};
@@ -13,8 +13,8 @@ use itoa::Buffer;
 pub fn read_object(text: &[u8]) -> Option<(ObjKind, usize)>
     ensures found { is_some result ≡ is_object_text text.now }
     ensures parts { MatchOption result ⊤ (λ r. (r.1 ≤ length text.now)
-        × (text.now ≡ text_of r.0 (drop r.1 text.now))) }
-    ensures each { (kind : ObjKind) (body : List ℕ) → text.now ≡ text_of kind body
+        × (text.now ≡ text_of_object r.0 (drop r.1 text.now))) }
+    ensures each { (kind : ObjKind) (body : List ℕ) → text.now ≡ text_of_object kind body
         → result ≡ Some (kind, length (header_of kind (length body))) }
 {
     let start = place_of(text, b'\0')? + 1;

@@ -28,7 +28,7 @@ fn are_named(entries: &[TreeEntry]) -> bool
 fn are_ascending(entries: &[TreeEntry]) -> bool
     ensures { IsTrue result ↔ IsAscending entries.now }
 {
-    entries.is_sorted_by(|one, next| one.is_below(next))
+    entries.is_sorted_by(|one, next| one.sorts_below(next))
 }
 
 // Whether an entry is sorted by this text.

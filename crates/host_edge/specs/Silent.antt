@@ -1,8 +1,7 @@
 -- What the host's files tell: nothing of contents, and how often they failed.
 use Rattle.std.specs.Prelude.{ℕ, []}
 use Rattle.std.specs.FinMap.{empty}
-use Rattle.file_store.specs.Causes.{Rose}
-use Rattle.file_store.specs.Disk.{Drive, at_rest}
+use Rattle.file_store.specs.All.{Rose, Drive, at_rest}
 use Rattle.file_store.specs.declared.errors.FileErr.{FileErr}
 use Rattle.file_store.specs.declared.errors.FileErr.TheVariants.{Failed, Blocked, NoMemory}
 
@@ -14,7 +13,7 @@ silent faults = record {
 }
 
 -- An error of the host: a fault that is counted, or want of memory.
-abbrev pub IsRefusal : ℕ → ℕ → FileErr → Type 0
-IsRefusal before after Failed = Rose before after
-IsRefusal before after (Blocked at) = ⊥
-IsRefusal before after NoMemory = Unit {0}
+abbrev pub IsFailure : ℕ → ℕ → FileErr → Type 0
+IsFailure before after Failed = Rose before after
+IsFailure before after (Blocked at) = ⊥
+IsFailure before after NoMemory = Unit {0}

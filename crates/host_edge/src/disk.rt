@@ -5,7 +5,7 @@
 // needs them, and removed where a removal leaves them empty. No call goes through a link at the
 // place itself: what stands there is looked at just before.
 ghost use Rattle.std.specs.Prelude.{◌≡◌, ◌≤◌};
-ghost use Rattle.host_edge.specs.Silent.{IsRefusal};
+ghost use Rattle.host_edge.specs.Silent.{IsFailure};
 
 use crate::dirty::Dirty;
 use crate::listing::items_below;
@@ -82,9 +82,9 @@ impl<R: std::rt::Files + AllocGlobal + Clone + Drop> HostFiles<R> {
 }
 
 // An error of the host: a fault that is counted, or want of memory.
-fn refusal(faults: &mut u64, error: io::Error) -> FileErr
+fn failure(faults: &mut u64, error: io::Error) -> FileErr
     ensures later { faults.old ≤ faults.new }
-    ensures cause { IsRefusal faults.old faults.new result }
+    ensures cause { IsFailure faults.old faults.new result }
 {
     if error.kind() == ErrorKind::OutOfMemory {
         return FileErr::NoMemory;
@@ -107,21 +107,21 @@ impl<R: std::rt::Files + AllocGlobal + Clone + Drop> Files for HostFiles<R> {
     fn kind(&mut self, _alloc: Global, place: &Place) -> Result<Kind, FileErr> {
         match kind_of(&self.rt, place.as_str()) {
             Ok(kind) => Ok(kind),
-            Err(e) => Err(refusal(&mut self.faults, e)),
+            Err(e) => Err(failure(&mut self.faults, e)),
         }
     }
 
     fn size(&mut self, _alloc: Global, place: &Place) -> Result<Option<u64>, FileErr> {
         match size_of(&self.rt, place.as_str()) {
             Ok(size) => Ok(size),
-            Err(e) => Err(refusal(&mut self.faults, e)),
+            Err(e) => Err(failure(&mut self.faults, e)),
         }
     }
 
     fn read(&mut self, alloc: Global, place: &Place) -> Result<Option<Vec<u8>>, FileErr> {
         match read_whole(&self.rt, alloc, place.as_str()) {
             Ok(bytes) => Ok(bytes),
-            Err(e) => Err(refusal(&mut self.faults, e)),
+            Err(e) => Err(failure(&mut self.faults, e)),
         }
     }
 
@@ -134,49 +134,49 @@ impl<R: std::rt::Files + AllocGlobal + Clone + Drop> Files for HostFiles<R> {
     ) -> Result<usize, FileErr> {
         match fill_from(&self.rt, place.as_str(), from, buffer) {
             Ok(count) => Ok(count),
-            Err(e) => Err(refusal(&mut self.faults, e)),
+            Err(e) => Err(failure(&mut self.faults, e)),
         }
     }
 
     fn list(&mut self, alloc: Global, place: &Place) -> Result<Vec<Item>, FileErr> {
         match items_below(&self.rt, alloc, place.as_str()) {
             Ok(items) => Ok(items),
-            Err(e) => Err(refusal(&mut self.faults, e)),
+            Err(e) => Err(failure(&mut self.faults, e)),
         }
     }
 
     fn write(&mut self, alloc: Global, place: &Place, bytes: &[u8]) -> Result<(), FileErr> {
         match self.put(alloc, place, bytes, false) {
             Ok(()) => Ok(()),
-            Err(e) => Err(refusal(&mut self.faults, e)),
+            Err(e) => Err(failure(&mut self.faults, e)),
         }
     }
 
     fn append(&mut self, alloc: Global, place: &Place, bytes: &[u8]) -> Result<(), FileErr> {
         match self.put(alloc, place, bytes, true) {
             Ok(()) => Ok(()),
-            Err(e) => Err(refusal(&mut self.faults, e)),
+            Err(e) => Err(failure(&mut self.faults, e)),
         }
     }
 
     fn rename(&mut self, alloc: Global, from: &Place, to: &Place) -> Result<bool, FileErr> {
         match self.move_file(alloc, from, to) {
             Ok(()) => Ok(true),
-            Err(e) => Err(refusal(&mut self.faults, e)),
+            Err(e) => Err(failure(&mut self.faults, e)),
         }
     }
 
     fn remove(&mut self, alloc: Global, place: &Place) -> Result<bool, FileErr> {
         match self.remove_file(alloc, place) {
             Ok(found) => Ok(found),
-            Err(e) => Err(refusal(&mut self.faults, e)),
+            Err(e) => Err(failure(&mut self.faults, e)),
         }
     }
 
     fn barrier(&mut self, _alloc: Global) -> Result<(), FileErr> {
         match self.dirty.sync(&self.rt) {
             Ok(()) => Ok(()),
-            Err(e) => Err(refusal(&mut self.faults, e)),
+            Err(e) => Err(failure(&mut self.faults, e)),
         }
     }
 }

@@ -3,9 +3,7 @@ ghost use Rattle.std.specs.Prelude.{◌≡◌, IfOk, IsTrue};
 ghost use Rattle.std.specs.List.{list_all};
 ghost use Rattle.std.specs.BTreeMap.{IsOrdered};
 ghost use Rattle.std.specs.String.{string_cmp};
-ghost use Rattle.file_store.specs.Kinds.{AreListed, AreThere};
-ghost use Rattle.file_store.specs.Kinds.{is_item_name as is_item_name_of, names_in};
-ghost use Rattle.file_store.specs.Named.{as_items};
+ghost use Rattle.file_store.specs.All.{AreListed, AreThere, is_item_name as is_item_name_of, names_in, as_items};
 
 use crate::paths::kind_of;
 use file_store::{Item, Kind, Text};

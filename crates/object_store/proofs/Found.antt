@@ -2,10 +2,10 @@
 use Rattle.std.proofs.Common.{◌≡◌, ℕ, Bool, true, false, cond, List, Some, None, refl}
 use Rattle.std.specs.Prelude.{bytes_eq}
 use Rattle.std.proofs.lemmas.Slice.Eq.{bytes_eq-Decides}
-use Rattle.places.specs.Names.{Names}
+use Rattle.places.specs.All.{Names}
 use Rattle.sha1.specs.Sha1.{sha1}
 use Rattle.faults.specs.declared.faults.Fault.{Fault}
-use Rattle.git_objects.specs.Objects.{oid, is_object_text}
+use Rattle.git_objects.specs.All.{oid, is_object_text}
 use Rattle.object_store.specs.Objects.{object_text}
 use Rattle.object_store.specs.Puts.{found_fault}
 use Rattle.object_store.specs.declared.objects.NewObject.{NewObject}

@@ -15,15 +15,14 @@ use Rattle.std.proofs.lemmas.List.Folds.{list_any-append}
 use Rattle.std.proofs.lemmas.Map.Text.{is_eq-slice_cmp}
 use Rattle.std.proofs.lemmas.Slice.Eq.{bytes_eq-Decides}
 use Rattle.sha1.specs.Sha1.{sha1, digest_bytes}
-use Rattle.places.specs.Names.{Names}
-use Rattle.places.specs.Order.{place_eq}
+use Rattle.places.specs.All.{Names, place_eq}
 use Rattle.places.proofs.Above.{same_rest}
 use Rattle.places.proofs.Grounds.{same, other}
 use Rattle.file_store.specs.declared.replacing.Replacement.{Replacement}
-use Rattle.git_objects.specs.Objects.{oid, hex_of}
+use Rattle.git_objects.specs.All.{oid, hex_of}
 use Rattle.git_objects.specs.declared.objects.ObjKind.{ObjKind}
 use Rattle.git_objects.proofs.Digits.{hex_of-injective}
-use Rattle.repository.specs.Layout.{object_names, object_place}
+use Rattle.repository.specs.All.{object_names, object_place}
 use Rattle.object_store.specs.Objects.{place_in}
 use Rattle.object_store.specs.Looks.{HaveIds}
 use Rattle.object_store.specs.declared.objects.NewObject.{NewObject}

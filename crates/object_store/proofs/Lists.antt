@@ -1,13 +1,10 @@
 -- Faults, missing objects and their files, list by list.
 use Rattle.std.proofs.Common.{◌≡◌, ℕ, ◌+◌, ◌||◌, List, [], ◌∷◌, ◌++◌, length, Option, Some, None, refl, sym, ap, ◌∙◌, add-zero, arith}
 use Rattle.std.specs.List.{list_any}
-use Rattle.places.specs.Names.{Names}
-use Rattle.places.specs.Order.{place_eq}
-use Rattle.places.specs.Ground.{Ground, file_at}
-use Rattle.file_store.specs.Course.{Round}
-use Rattle.file_store.specs.Replaced.{or_next, round_of}
-use Rattle.faults.specs.declared.faults.Fault.{Fault}
+use Rattle.places.specs.All.{Names, place_eq, Ground, file_at}
+use Rattle.file_store.specs.All.{Round, or_next, round_of}
 use Rattle.file_store.specs.declared.replacing.Replacement.{Replacement}
+use Rattle.faults.specs.declared.faults.Fault.{Fault}
 use Rattle.object_store.specs.Objects.{place_in, object_text, objects_round}
 use Rattle.object_store.specs.Looks.{file_of}
 use Rattle.object_store.specs.Puts.{fault_in, first_fault, has_place, staging}

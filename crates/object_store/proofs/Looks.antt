@@ -5,28 +5,26 @@ use Rattle.std.specs.List.{list_any}
 use Rattle.std.proofs.lemmas.Bool.{false≢true}
 use Rattle.std.proofs.lemmas.Grind.{fold-append}
 use Rattle.std.proofs.lemmas.List.Folds.{list_any-append}
-use Rattle.places.specs.Order.{place_eq}
-use Rattle.places.specs.Ground.{Ground, file_at, stands}
+use Rattle.places.specs.All.{place_eq, Ground, file_at, stands, Names}
 use Rattle.places.proofs.Grounds.{same, other}
 use Rattle.places.proofs.Texts.{or_neither}
-use Rattle.file_store.specs.Disk.{Drive, History}
-use Rattle.file_store.specs.Ends.{present}
-use Rattle.file_store.specs.Replaced.{or_next}
+use Rattle.file_store.specs.All.{Drive, History, present, or_next}
+use Rattle.file_store.specs.declared.replacing.Replacement.{Replacement}
 use Rattle.faults.specs.declared.faults.Fault.{Fault}
 use Rattle.faults.specs.declared.faults.Trouble.{Trouble}
 use Rattle.faults.specs.declared.faults.Trouble.TheVariants.{Refused, Device, NoMemory}
-use Rattle.file_store.specs.declared.replacing.Replacement.{Replacement}
 use Rattle.std.specs.Prelude.{bytes_eq}
 use Rattle.sha1.specs.Sha1.{sha1}
-use Rattle.git_objects.specs.Objects.{oid, is_object_text}
+use Rattle.git_objects.specs.All.{oid, is_object_text}
 use Rattle.acts.proofs.Reading.{read_gives, read_refuses, read_starves}
 use Rattle.faults.specs.declared.faults.Fault.TheVariants.{Damaged, Collision}
 use Rattle.object_store.specs.Objects.{place_in, object_text}
-use Rattle.object_store.specs.Looks.{file_of, looked, HaveOwnPlaces, IsFound, IsFoundAmong, LookReads, MayAdd, AreFiles, MissingReads}
-use Rattle.object_store.specs.Puts.{found_fault, fault_in, first_fault, has_place, one_more, missing, staging}
+use Rattle.object_store.specs.Looks.{file_of, looked, HaveOwnPlaces, IsFound, IsFoundAmong}
+use Rattle.object_store.specs.Looks.{LookReads, MayAdd, AreFiles, MissingReads}
+use Rattle.object_store.specs.Puts.{found_fault, fault_in, first_fault, has_place, one_object_more}
+use Rattle.object_store.specs.Puts.{missing, staging}
 use Rattle.object_store.specs.declared.objects.NewObject.{NewObject}
 use Rattle.object_store.proofs.Lists.{first_fault-append, staging-append, length-staging, any-staging}
-use Rattle.places.specs.Names.{Names}
 
 module _ (repo : Names) (x : NewObject) (g : Ground) where
   abbrev fault_here : Option Fault
@@ -50,8 +48,8 @@ module _ (repo : Names) (x : NewObject) (g : Ground) where
       ∙ ap (λ o. or_next o (first_fault repo (x ∷ rest) g)) before
       ∙ ap (λ o. or_next o (first_fault repo rest g)) here
 
-  pub missing_more : (xs : List NewObject) → missing repo (xs ++ x ∷ []) g ≡ one_more repo (stands g (place_in repo x)) (missing repo xs g) x
-  missing_more xs = fold-append (λ some object. one_more repo (stands g (place_in repo object)) some object) [] xs (x ∷ [])
+  pub missing_more : (xs : List NewObject) → missing repo (xs ++ x ∷ []) g ≡ one_object_more repo (stands g (place_in repo x)) (missing repo xs g) x
+  missing_more xs = fold-append (λ some object. one_object_more repo (stands g (place_in repo object)) some object) [] xs (x ∷ [])
 
 -- the file of one more object
 pub staging_more : (repo : Names) (xs : List NewObject) (x : NewObject) (list : List Replacement) → list ≡ staging repo 0 xs → list ++ file_of repo (length list) x ∷ [] ≡ staging repo 0 (xs ++ x ∷ [])
@@ -60,11 +58,11 @@ staging_more repo xs x list e =
     (λ j. e j ++ file_of repo (size j) x ∷ []) ∙ sym (staging-append repo 0 xs (x ∷ []))
 
 -- with the next object looked at
-looked_more : (repo : Names) (there : Bool) (some : List NewObject) (x : NewObject) (before : List Replacement) → before ≡ staging repo 0 some → looked repo there before x ≡ staging repo 0 (one_more repo there some x)
+looked_more : (repo : Names) (there : Bool) (some : List NewObject) (x : NewObject) (before : List Replacement) → before ≡ staging repo 0 some → looked repo there before x ≡ staging repo 0 (one_object_more repo there some x)
 looked_more repo true some x before e = e
 looked_more repo false some x before e = by (has_place repo some (place_in repo x)) (ap (list_any (λ r. place_eq r.place (place_in repo x))) e ∙ any-staging repo 0 some (place_in repo x)) refl
   where
-    by : (b : Bool) → list_any (λ r. place_eq r.place (place_in repo x)) before ≡ has_place repo some (place_in repo x) → has_place repo some (place_in repo x) ≡ b → looked repo false before x ≡ staging repo 0 (one_more repo false some x)
+    by : (b : Bool) → list_any (λ r. place_eq r.place (place_in repo x)) before ≡ has_place repo some (place_in repo x) → has_place repo some (place_in repo x) ≡ b → looked repo false before x ≡ staging repo 0 (one_object_more repo false some x)
     by true same is =
         ap (λ b. cond b before (before ++ file_of repo (length before) x ∷ [])) (same ∙ is) ∙ e ∙ sym (ap (λ b. staging repo 0 (cond b some (some ++ x ∷ []))) is)
     by false same is =
@@ -84,11 +82,11 @@ own_appended repo (y ∷ some) x none own =
       own_appended repo some x parts.1 own.1,
     )
 
-own_more : (repo : Names) (there : Bool) (some : List NewObject) (x : NewObject) → HaveOwnPlaces repo some → HaveOwnPlaces repo (one_more repo there some x)
+own_more : (repo : Names) (there : Bool) (some : List NewObject) (x : NewObject) → HaveOwnPlaces repo some → HaveOwnPlaces repo (one_object_more repo there some x)
 own_more repo true some x own = own
 own_more repo false some x own = by (has_place repo some (place_in repo x)) refl
   where
-    by : (b : Bool) → has_place repo some (place_in repo x) ≡ b → HaveOwnPlaces repo (one_more repo false some x)
+    by : (b : Bool) → has_place repo some (place_in repo x) ≡ b → HaveOwnPlaces repo (one_object_more repo false some x)
     by true is = subst (λ b. HaveOwnPlaces repo (cond b some (some ++ x ∷ []))) (sym is) own
     by false is = subst (λ b. HaveOwnPlaces repo (cond b some (some ++ x ∷ []))) (sym is) (own_appended repo some x is own)
 
@@ -143,4 +141,4 @@ module _ (tells : Bool) (repo : Names) (xs : List NewObject) (x : NewObject) (ol
   look_fails objects rest before after NoMemory split so_far look = read_starves (omega (arith, so_far.later, look.later)) (λ t. (look.told t).same ∙ (so_far.told t).same)
 
 pub files_more : (repo : Names) (x : NewObject) (before after : List Replacement) → AreFiles repo before → MayAdd repo x before after → AreFiles repo after
-files_more repo x before after (some, items, own) (there, more) = (one_more repo there some x, more ∙ looked_more repo there some x before items, own_more repo there some x own)
+files_more repo x before after (some, items, own) (there, more) = (one_object_more repo there some x, more ∙ looked_more repo there some x before items, own_more repo there some x own)

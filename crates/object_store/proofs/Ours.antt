@@ -4,19 +4,18 @@ use Rattle.std.specs.Prelude.{is_some}
 use Rattle.std.specs.List.{All}
 use Rattle.std.proofs.lemmas.Bool.{false≢true}
 use Rattle.std.proofs.lemmas.List.Elements.{All-head, All-tail}
-use Rattle.places.specs.Names.{Names}
-use Rattle.places.specs.Order.{place_eq, same_names}
-use Rattle.places.specs.Ground.{Ground, file_at, stands}
+use Rattle.places.specs.All.{Names, place_eq, Ground, file_at, stands}
+use Rattle.places.proofs.Ties.{same_names}
 use Rattle.places.proofs.Grammar.{or_either}
 use Rattle.places.proofs.Grounds.{cases_place, same}
-use Rattle.file_store.specs.Course.{Round, with_file, changed}
-use Rattle.file_store.specs.Replaced.{or_next, IsNoTmp, round_of}
-use Rattle.faults.specs.declared.faults.Fault.{Fault}
+use Rattle.file_store.specs.All.{Round, with_file, changed, or_next, IsNoTmp, round_of}
 use Rattle.file_store.specs.declared.replacing.Replacement.{Replacement}
+use Rattle.faults.specs.declared.faults.Fault.{Fault}
 use Rattle.file_store.proofs.Rounds.{file_at-with_file, with_file_same, with_file_other, changed-as}
-use Rattle.repository.specs.Layout.{in_tmp}
+use Rattle.repository.specs.All.{in_tmp}
 use Rattle.object_store.specs.Objects.{place_in, object_text, objects_round, with_objects}
-use Rattle.object_store.specs.Puts.{fault_in, first_fault, has_place, one_more, missing, staging}
+use Rattle.object_store.specs.Puts.{fault_in, first_fault, has_place, one_object_more, missing}
+use Rattle.object_store.specs.Puts.{staging}
 use Rattle.object_store.specs.declared.objects.NewObject.{NewObject}
 use Rattle.object_store.proofs.Found.{own_text}
 use Rattle.object_store.proofs.Lists.{round-staging}
@@ -67,7 +66,7 @@ module _ (repo : Names) where
         ]
 
     abbrev more_missing : List NewObject → List NewObject → List NewObject
-    more_missing some objects = fold (λ some object. one_more repo (stands g (place_in repo object)) some object) some objects
+    more_missing some objects = fold (λ some object. one_object_more repo (stands g (place_in repo object)) some object) some objects
 
     module _ (x : NewObject) (objects some : List NewObject) (none : first_fault repo (x ∷ objects) g ≡ None) (q : Names) where
       abbrev rest : Ground
@@ -80,7 +79,7 @@ module _ (repo : Names) where
       elsewhere apart = sym (with_file_other (place_in repo x) (Some (object_text x)) rest q apart)
 
       one_step : (t : Bool) → stands g (place_in repo x) ≡ t → (b : Bool) → has_place repo some (place_in repo x) ≡ b
-          → file_at (with_objects repo (one_more repo t some x) rest) q ≡ file_at (with_objects repo some all) q
+          → file_at (with_objects repo (one_object_more repo t some x) rest) q ≡ file_at (with_objects repo some all) q
       one_step true there b has = changed-as (objects_round repo some) rest all q (elim (cases_place q (place_in repo x)) [
         | inl is ↦ held_stays objects (or_parts (fault_in repo x (file_at g (place_in repo x))) (first_fault repo objects g) none).1 q (ap (stands g) is ∙ there) ∙ sym (held_stays (x ∷ objects) none q (ap (stands g) is ∙ there))
         | inr other ↦ elsewhere other
@@ -100,7 +99,7 @@ module _ (repo : Names) where
         → file_at (with_objects repo (more_missing some objects) g) q ≡ file_at (with_objects repo some (with_objects repo objects g)) q
     only_missing [] some q none = refl
     only_missing (x ∷ objects) some q none =
-        only_missing objects (one_more repo (stands g (place_in repo x)) some x) q (or_parts (fault_in repo x (file_at g (place_in repo x))) (first_fault repo objects g) none).1
+        only_missing objects (one_object_more repo (stands g (place_in repo x)) some x) q (or_parts (fault_in repo x (file_at g (place_in repo x))) (first_fault repo objects g) none).1
         ∙ one_step x objects some none q (stands g (place_in repo x)) refl (has_place repo some (place_in repo x)) refl
 
     pub missing_enough : (objects : List NewObject) (q : Names) → first_fault repo objects g ≡ None → file_at (with_objects repo (missing repo objects g) g) q ≡ file_at (with_objects repo objects g) q

@@ -2,29 +2,24 @@
 use Rattle.std.proofs.Common.{inl, inr, ◌≡◌, ◌≤◌, ◌<◌, ◌==◌, ℕ, Bool, true, false, cond, nat_lt, IsTrue, List, [], ◌∷◌, length, Option, Some, None, Result, Ok, Err, Vec, refl, sym, ap, ◌∙◌, subst, arith}
 use Rattle.std.specs.declared.alloc.Global.{Global}
 use Rattle.std.proofs.lemmas.Bool.{lt-ltb, le-ltb}
-use Rattle.places.specs.Names.{text_of, Names}
-use Rattle.places.specs.Ground.{Ground}
-use Rattle.file_store.specs.Disk.{Drive}
-use Rattle.file_store.specs.Course.{Goes as GoesAlong}
-use Rattle.file_store.specs.Ends.{present}
-use Rattle.file_store.specs.Replaced.{or_next, AreApart, ReplaceEnds, IsNoTmp, replacing}
-use Rattle.faults.specs.declared.faults.Fault.{Fault}
-use Rattle.faults.specs.declared.faults.Fault.TheVariants.{TooLarge, Blocked}
+use Rattle.places.specs.All.{text_of, Names, Ground}
+use Rattle.file_store.specs.All.{Drive, GoesAlong, present, or_next, AreApart, ReplaceEnds, IsNoTmp}
+use Rattle.file_store.specs.All.{replacing}
 use Rattle.file_store.specs.declared.errors.FileErr.{FileErr}
-use Rattle.faults.specs.declared.faults.Trouble.{Trouble}
-use Rattle.faults.specs.declared.faults.Trouble.TheVariants.{Refused, Device, NoMemory}
 use Rattle.file_store.specs.declared.replacing.Replacement.{Replacement}
-use Rattle.repository.specs.Unfinished.{is_tmp, is_repo}
-use Rattle.acts.specs.Acts.{gives}
-use Rattle.acts.specs.Ends.{ActsQuietly}
-use Rattle.acts.specs.Files.{puts, CanReplace, MayBlock}
+use Rattle.faults.specs.declared.faults.Fault.{Fault}
+use Rattle.faults.specs.declared.faults.Trouble.{Trouble}
+use Rattle.faults.specs.declared.faults.Fault.TheVariants.{TooLarge, Blocked}
+use Rattle.faults.specs.declared.faults.Trouble.TheVariants.{Refused, Device, NoMemory}
+use Rattle.repository.specs.All.{is_tmp, is_repo, repo_limit, object_limit, large}
+use Rattle.acts.specs.All.{gives, ActsQuietly, puts, CanReplace, MayBlock}
 use Rattle.acts.proofs.Laws.{seq, fails, done, handed, starved_early, failed_early, passes_on, stops_on, same_act}
 use Rattle.acts.proofs.Replaces.{replaces, in_trouble}
 use Rattle.repository.proofs.Unfinished.{repo_tmp}
 use Rattle.object_store.specs.Looks.{IsFound, IsFoundAmong, MissingReads, AreFiles, AreMissing}
 use Rattle.object_store.specs.Puts.{first_fault, missing, staging}
-use Rattle.repository.specs.Limits.{repo_limit, object_limit, large}
-use Rattle.object_store.specs.PutActs.{IsTooLong, MayPut, long_fault, early_fault, puts_some, puts_missing, puts_objects}
+use Rattle.object_store.specs.PutActs.{IsTooLong, MayPut, long_fault, early_fault, puts_some}
+use Rattle.object_store.specs.PutActs.{puts_missing, puts_objects}
 use Rattle.object_store.specs.declared.objects.NewObject.{NewObject}
 use Rattle.object_store.proofs.Looks.{present-same}
 use Rattle.object_store.proofs.Lists.{length-staging}

@@ -5,14 +5,13 @@ use Rattle.std.specs.List.{All}
 use Rattle.std.proofs.lemmas.Bool.{false≢true}
 use Rattle.std.proofs.lemmas.List.Elements.{All-nil, All-cons}
 use Rattle.std.proofs.lemmas.Option.{slice_get_within}
-use Rattle.places.specs.Names.{Names}
-use Rattle.places.specs.Order.{place_eq}
+use Rattle.places.specs.All.{Names, place_eq}
 use Rattle.places.proofs.Grounds.{same as same_place}
 use Rattle.places.proofs.Texts.{or_neither}
-use Rattle.file_store.specs.Replaced.{AreApart}
+use Rattle.file_store.specs.All.{AreApart}
 use Rattle.file_store.specs.declared.replacing.Replacement.{Replacement}
-use Rattle.git_objects.specs.Objects.{oid}
-use Rattle.repository.specs.Layout.{object_place, tmp_place}
+use Rattle.git_objects.specs.All.{oid}
+use Rattle.repository.specs.All.{object_place, tmp_place}
 use Rattle.repository.proofs.Temporary.{tmp_inside, inside_apart, tmp_injective}
 use Rattle.object_store.specs.Objects.{place_in}
 use Rattle.object_store.specs.Looks.{file_of, HaveOwnPlaces}

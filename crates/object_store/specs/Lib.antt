@@ -1,3 +1,4 @@
+pub mod All
 pub mod Looks
 pub mod Objects
 pub mod PutActs

@@ -1,21 +1,20 @@
 -- How looking at objects' places ends.
-use Rattle.std.specs.Prelude.{◌≡◌, ◌⊎◌, ℕ, ◌||◌, Bool, false, if◌then◌else◌, List, [], ◌∷◌, ◌++◌, length, Some, None, Vec, Result}
+use Rattle.std.specs.Prelude.{◌≡◌, ◌⊎◌, ℕ, ◌||◌, Bool, false, if◌then◌else◌, List, [], ◌∷◌, ◌++◌}
+use Rattle.std.specs.Prelude.{length, Some, None, Vec, Result}
 use Rattle.std.specs.declared.alloc.Global.{Global}
 use Rattle.std.specs.List.{list_any}
 use Rattle.std.specs.Ordering.{nat_cmp}
 use Rattle.std.specs.Cmp.Lexicographic.{slice_cmp}
 use Rattle.std.specs.BTreeSet.{BTreeSet, contains}
-use Rattle.places.specs.Order.{place_eq}
-use Rattle.places.specs.Names.{Names}
-use Rattle.places.specs.Ground.{Ground, file_at, stands}
-use Rattle.git_objects.specs.Objects.{oid}
-use Rattle.file_store.specs.Disk.{Drive}
-use Rattle.acts.specs.Reads.{Reads}
-use Rattle.faults.specs.declared.faults.Fault.{Fault}
-use Rattle.faults.specs.declared.faults.Fault.TheVariants.{Damaged, Collision}
-use Rattle.faults.specs.declared.faults.Trouble.{Trouble}
+use Rattle.places.specs.All.{place_eq, Names, Ground, file_at, stands}
+use Rattle.git_objects.specs.All.{oid}
+use Rattle.file_store.specs.All.{Drive}
 use Rattle.file_store.specs.declared.replacing.Replacement.{Replacement}
-use Rattle.repository.specs.Layout.{tmp_place}
+use Rattle.acts.specs.All.{Reads}
+use Rattle.faults.specs.declared.faults.Fault.{Fault}
+use Rattle.faults.specs.declared.faults.Trouble.{Trouble}
+use Rattle.faults.specs.declared.faults.Fault.TheVariants.{Damaged, Collision}
+use Rattle.repository.specs.All.{tmp_place}
 use Rattle.object_store.specs.Objects.{place_in, object_text}
 use Rattle.object_store.specs.Puts.{fault_in, first_fault, has_place, missing, staging}
 use Rattle.object_store.specs.declared.objects.NewObject.{NewObject}

@@ -1,10 +1,9 @@
 -- Objects that are to be put: their places and texts, and the ground that has them.
 use Rattle.std.specs.Prelude.{ℕ, List, map, Some}
-use Rattle.places.specs.Names.{Names}
-use Rattle.places.specs.Ground.{Ground}
-use Rattle.file_store.specs.Course.{Round, changed}
-use Rattle.git_objects.specs.Objects.{oid, text_of}
-use Rattle.repository.specs.Layout.{object_place}
+use Rattle.places.specs.All.{Names, Ground}
+use Rattle.file_store.specs.All.{Round, changed}
+use Rattle.git_objects.specs.All.{oid, text_of_object}
+use Rattle.repository.specs.All.{object_place}
 use Rattle.object_store.specs.declared.objects.NewObject.{NewObject}
 
 -- Where an object stands in a repository.
@@ -13,7 +12,7 @@ place_in repo object = object_place repo (oid object.kind object.body)
 
 -- The text whose SHA-1 is the object's id.
 abbrev pub object_text : NewObject → List ℕ
-object_text object = text_of object.kind object.body
+object_text object = text_of_object object.kind object.body
 
 -- Each object's place with its text.
 abbrev pub objects_round : Names → List NewObject → Round

@@ -1,16 +1,15 @@
 -- A put of objects, as an act.
-use Rattle.std.specs.Prelude.{◌≡◌, ◌<◌, ℕ, Bool, IsTrue, nat_lt, List, [], ◌∷◌, length, Option, None, if◌then◌else◌}
-use Rattle.places.specs.Names.{text_of, Names}
-use Rattle.places.specs.Ground.{Ground}
-use Rattle.file_store.specs.Replaced.{or_next}
+use Rattle.std.specs.Prelude.{◌≡◌, ◌<◌, ℕ, Bool, IsTrue, nat_lt, List, [], ◌∷◌, length, Option}
+use Rattle.std.specs.Prelude.{None, if◌then◌else◌}
+use Rattle.places.specs.All.{text_of, Names, Ground}
+use Rattle.file_store.specs.All.{or_next}
+use Rattle.file_store.specs.declared.replacing.Replacement.{Replacement}
 use Rattle.faults.specs.declared.faults.Fault.{Fault}
 use Rattle.faults.specs.declared.faults.Fault.TheVariants.{TooLarge, Blocked}
 use Rattle.object_store.specs.Looks.{IsFoundAmong}
-use Rattle.file_store.specs.declared.replacing.Replacement.{Replacement}
-use Rattle.acts.specs.Acts.{Step, gives, unless, bind}
-use Rattle.acts.specs.Files.{puts}
+use Rattle.acts.specs.All.{Step, gives, unless, bind, puts}
 use Rattle.object_store.specs.Puts.{first_fault, missing, staging}
-use Rattle.repository.specs.Limits.{large, repo_limit, object_limit}
+use Rattle.repository.specs.All.{large, repo_limit, object_limit}
 use Rattle.object_store.specs.declared.objects.NewObject.{NewObject}
 
 -- A repository's place is too long to write in: the fault names it, with its length.

@@ -1,16 +1,15 @@
 -- How a put of objects ends.
-use Rattle.std.specs.Prelude.{ℕ, ◌+◌, Bool, ◌||◌, List, [], ◌∷◌, ◌++◌, fold, Option, Some, None, if◌then◌else◌, bytes_eq}
+use Rattle.std.specs.Prelude.{ℕ, ◌+◌, Bool, ◌||◌, List, [], ◌∷◌, ◌++◌, fold, Option, Some, None}
+use Rattle.std.specs.Prelude.{if◌then◌else◌, bytes_eq}
 use Rattle.std.specs.List.{list_any}
 use Rattle.sha1.specs.Sha1.{sha1}
-use Rattle.places.specs.Names.{Names}
-use Rattle.places.specs.Order.{place_eq}
-use Rattle.places.specs.Ground.{Ground, file_at, stands}
-use Rattle.file_store.specs.Replaced.{or_next}
+use Rattle.places.specs.All.{Names, place_eq, Ground, file_at, stands}
+use Rattle.file_store.specs.All.{or_next}
+use Rattle.file_store.specs.declared.replacing.Replacement.{Replacement}
 use Rattle.faults.specs.declared.faults.Fault.{Fault}
 use Rattle.faults.specs.declared.faults.Fault.TheVariants.{Damaged, Collision}
-use Rattle.file_store.specs.declared.replacing.Replacement.{Replacement}
-use Rattle.git_objects.specs.Objects.{oid, is_object_text}
-use Rattle.repository.specs.Layout.{tmp_place}
+use Rattle.git_objects.specs.All.{oid, is_object_text}
+use Rattle.repository.specs.All.{tmp_place}
 use Rattle.object_store.specs.Objects.{place_in, object_text}
 use Rattle.object_store.specs.declared.objects.NewObject.{NewObject}
 
@@ -40,14 +39,15 @@ abbrev pub has_place : Names → List NewObject → Names → Bool
 has_place repo objects p = list_any (λ object. place_eq (place_in repo object) p) objects
 
 -- One object more, unless something stands at its place or one of the others goes there.
-abbrev pub one_more : Names → Bool → List NewObject → NewObject → List NewObject
-one_more repo there some object =
+abbrev pub one_object_more : Names → Bool → List NewObject → NewObject → List NewObject
+one_object_more repo there some object =
     if there || has_place repo some (place_in repo object) then some else some ++ object ∷ []
 
 -- The objects at whose places nothing stands, and of two with one id the first alone.
 abbrev pub missing : Names → List NewObject → Ground → List NewObject
 missing repo objects g =
-    fold (λ some object. one_more repo (stands g (place_in repo object)) some object) [] objects
+    fold (λ some object. one_object_more repo (stands g (place_in repo object)) some object) []
+    objects
 
 -- Their files, by way of temporary places that are numbered from i on.
 abbrev pub staging : Names → ℕ → List NewObject → List Replacement

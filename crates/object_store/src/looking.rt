@@ -1,12 +1,12 @@
 // What stands where objects are to be put.
 ghost use Rattle.std.specs.Prelude.{◌≡◌, ◌≤◌, ◌&&◌, List, ℕ, length, bytes_eq, IfOk, OnOk};
 ghost use Rattle.sha1.specs.Sha1.{sha1};
-ghost use Rattle.git_objects.specs.Objects.{oid, is_object_text};
-ghost use Rattle.places.specs.Names.{Names, text_of};
+ghost use Rattle.git_objects.specs.All.{oid, is_object_text};
+ghost use Rattle.places.specs.All.{Names, text_of};
 ghost use Rattle.object_store.specs.Objects.{place_in};
 ghost use Rattle.object_store.specs.Looks.{HaveIds, LookReads, MayAdd, MissingReads, AreFiles};
 ghost use Rattle.object_store.specs.Puts.{found_fault};
-ghost use Rattle.repository.specs.Limits.{object_limit};
+ghost use Rattle.repository.specs.All.{object_limit};
 
 use crate::objects::NewObject;
 use faults::{Fault, Trouble};

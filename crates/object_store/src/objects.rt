@@ -13,7 +13,7 @@ pub struct NewObject {
 }
 
 impl NewObject {
-    ghost use Rattle.git_objects.specs.Objects.{oid};
+    ghost use Rattle.git_objects.specs.All.{oid};
     ghost use Rattle.object_store.specs.Objects.{object_text as text_of_object};
 
     pub fn id(&self) -> Id

@@ -3,8 +3,8 @@
 // Every place is looked at before anything is written; then what is missing goes by temporary places, all of it at the
 // price of two barriers. An object's file is never written in place, so a reader sees none of it or all.
 ghost use Rattle.std.specs.Prelude.{IsTrue};
-ghost use Rattle.repository.specs.Unfinished.{is_repo};
-ghost use Rattle.acts.specs.Ends.{ActsQuietly};
+ghost use Rattle.repository.specs.All.{is_repo};
+ghost use Rattle.acts.specs.All.{ActsQuietly};
 ghost use Rattle.object_store.specs.PutActs.{MayPut, puts_objects};
 
 use crate::looking::missing;

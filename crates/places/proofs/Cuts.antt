@@ -4,7 +4,9 @@ use Rattle.std.specs.Prelude.{◌==◌, MatchOption, Option, Some, None, is_some
 use denote.Ref.{Bor}
 use Rattle.std.specs.List.{All, list_any}
 use Rattle.std.proofs.lemmas.List.Elements.{All-append, All-nil, All-cons, All-head, All-tail}
-use Rattle.places.specs.Names.{Names, slash, IsName, pieces, names_of, slashed, text_of, relative, joined, is_path, IsPlace, IsText, IsStored, longest, IsAbove, IsAtOrAbove, IsPathBelow}
+use Rattle.places.specs.Names.{Names, slash, IsName, pieces, names_of, slashed, text_of, relative}
+use Rattle.places.specs.Names.{joined, is_path, IsPlace, IsText, IsStored, longest, IsAbove}
+use Rattle.places.specs.Names.{IsAtOrAbove, IsPathBelow}
 use Rattle.places.proofs.Texts.{SomeParts, facts, pieces_some, pieces_one, pieces-append, pieces_after, names_of-append, names_of-slashed, names_of-text_of, slashed-append, slashed-pieces, all_names}
 use Rattle.places.proofs.Grammar.{text_of-slashed}
 

@@ -9,4 +9,5 @@ pub mod Orders
 pub mod Slashes
 pub mod Standing
 pub mod Texts
+pub mod Ties
 pub mod Walk

@@ -6,8 +6,10 @@ use Rattle.std.specs.List.{list_any}
 use Rattle.std.specs.FinMap.{contains_key-keys, keys, empty, insert, remove, get-empty}
 use Rattle.std.proofs.lemmas.Bool.{cases_Bool, false_from_ne_true, false≢true}
 use Rattle.places.specs.Names.{Names, IsAbove, IsAtOrAbove, is_above, IsApart}
-use Rattle.places.specs.Order.{names_cmp, same_names, place_eq-names_cmp}
-use Rattle.places.specs.Ground.{Ground, file_at, stands, stands_below, stands_above, is_shut, IsGround}
+use Rattle.places.specs.Order.{names_cmp}
+use Rattle.places.proofs.Ties.{same_names, place_eq-names_cmp}
+use Rattle.places.specs.Ground.{Ground, file_at, stands, stands_below, stands_above, is_shut}
+use Rattle.places.specs.Ground.{IsGround}
 use Rattle.places.proofs.Texts.{or_neither}
 use Rattle.places.proofs.Grammar.{or_either, or_left, or_right}
 use Rattle.places.proofs.Above.{is_above-sound, is_above-complete, none_above, not_above_itself, is_above-itself, at_or_above-above, compare_above}

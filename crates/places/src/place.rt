@@ -1,13 +1,16 @@
 // An absolute place, which keeps its text and is seen as its names.
-ghost use Rattle.std.specs.Prelude.{◌≡◌, ◌↔◌, ◌==◌, ◌⊎◌, ◌≤◌, ◌<◌, ◌+◌, ◌++◌, ◌∷◌, [], map, List, ℕ, length, string_bytes, IfOk, IsTrue, false, MatchOption, MatchResult};
+ghost use Rattle.std.specs.Prelude.{◌≡◌, ◌↔◌, ◌==◌, ◌⊎◌, ◌≤◌, ◌<◌, ◌+◌, ◌++◌, ◌∷◌, [], map, List, ℕ, length};
+ghost use Rattle.std.specs.Prelude.{string_bytes, IfOk, IsTrue, false, MatchOption, MatchResult};
 ghost use Rattle.std.specs.List.{list_any};
-ghost use Rattle.places.specs.Names.{IsName, IsPlace, IsText, names_of, text_of, slashed, slash, joined, pieces, is_path, longest, IsAbove, IsAtOrAbove, is_above, IsPathBelow, target, has_name};
+ghost use Rattle.places.specs.Names.{IsName, IsPlace, IsText, names_of, text_of, slashed, slash, joined, pieces};
+ghost use Rattle.places.specs.Names.{is_path, longest, IsAbove, IsAtOrAbove, is_above, IsPathBelow, target, has_name};
 ghost use Rattle.places.specs.declared.place.PlaceErr.TheVariants.{Bad, NoMemory};
 ghost use Rattle.std.proofs.Common.{rules};
 ghost use Rattle.std.specs.Cmp.{partial_order_from_own_ties, partial_order_from_total};
 ghost use Rattle.std.specs.Cmp.Rules.{comparing};
 ghost use Rattle.std.specs.Ordering.{as_partial_cmp};
-ghost use Rattle.places.specs.Order.{place_cmp, place_eq, place_cmp_total, place_eq-cmp};
+ghost use Rattle.places.specs.Order.{place_cmp, place_eq};
+ghost use Rattle.places.specs.Ordered.{place_cmp_total, place_eq-cmp};
 
 use crate::names::is_text;
 use crate::words::{are_names, parts, spelled, started, walked, without_slash};

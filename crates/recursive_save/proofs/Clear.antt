@@ -4,16 +4,17 @@ use Rattle.std.specs.List.{All}
 use Rattle.std.specs.FinMap.{insert, remove}
 use Rattle.std.proofs.lemmas.Bool.{false_from_ne_true}
 use Rattle.std.proofs.lemmas.List.Elements.{All-nil, All-cons}
-use Rattle.places.specs.Names.{Names, IsAbove, is_above}
-use Rattle.places.specs.Ground.{Ground, file_at, stands, stands_below, stands_above, is_shut}
+use Rattle.places.specs.All.{Names, IsAbove, is_above, Ground, file_at, stands, stands_below}
+use Rattle.places.specs.All.{stands_above, is_shut}
 use Rattle.places.proofs.Texts.{or_neither}
 use Rattle.places.proofs.Above.{is_above-under, above-at_or_above}
 use Rattle.places.proofs.Standing.{stands-none, none_stands_below, stands_above-file, is_shut-above, is_shut-insert, is_shut-remove_open, open_under}
-use Rattle.file_store.specs.Replaced.{replaced, staged, installed, stage_block, move_block, block_of, or_next}
+use Rattle.file_store.specs.All.{replaced, staged, installed, stage_block, move_block, block_of}
+use Rattle.file_store.specs.All.{or_next}
 use Rattle.file_store.specs.declared.replacing.Replacement.{Replacement}
-use Rattle.git_objects.specs.Objects.{oid}
-use Rattle.repository.specs.Layout.{tmp_place, repo_of}
-use Rattle.object_store.specs.Objects.{place_in}
+use Rattle.git_objects.specs.All.{oid}
+use Rattle.repository.specs.All.{tmp_place, repo_of}
+use Rattle.object_store.specs.All.{place_in}
 use Rattle.object_store.specs.declared.objects.NewObject.{NewObject}
 use Rattle.recursive_save.specs.Creating.{IsVacant}
 use Rattle.repository.proofs.Parts.{Part, names_at, parts_apart, part_below, IsPart, tmp_part, object_part}

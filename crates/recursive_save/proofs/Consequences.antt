@@ -3,31 +3,29 @@ use Rattle.std.proofs.Common.{◌≡◌, ◌≢◌, ◌⊎◌, inl, inr, ⊎_eli
 use Rattle.std.specs.Prelude.{bytes_eq}
 use Rattle.std.proofs.lemmas.Bool.{false≢true, false_from_ne_true}
 use Rattle.std.proofs.lemmas.Slice.Eq.{bytes_eq-Decides}
-use Rattle.places.specs.Names.{Names, IsAbove, has_name}
-use Rattle.places.specs.Ground.{Ground, file_at}
+use Rattle.places.specs.All.{Names, IsAbove, has_name, Ground, file_at}
 use Rattle.places.proofs.Grounds.{cases_place}
 use Rattle.places.proofs.Above.{is_above-complete}
 use Rattle.places.proofs.Texts.{or_neither}
-use Rattle.file_store.specs.Disk.{Drive, Since, IsImage}
-use Rattle.file_store.specs.Ends.{present}
-use Rattle.file_store.specs.Course.{Round, changed, finally, WasOpen, IsBetween, IsAlong}
+use Rattle.file_store.specs.All.{Drive, Since, IsImage, present, Round, changed, finally, WasOpen}
+use Rattle.file_store.specs.All.{IsBetween, IsAlong}
 use Rattle.faults.specs.declared.faults.Fault.{Fault}
 use Rattle.file_store.proofs.Moments.{weaken}
 use Rattle.file_store.proofs.Course.{SameRounds, Along-map}
 use Rattle.file_store.proofs.Rounds.{LeftBy}
 use Rattle.file_store.proofs.Consequences.{now_along, image_along, AllLeave, AtMostOnce, never, not_here, not_later, finally_other, once_of, each_place, last_place}
-use Rattle.git_objects.specs.Objects.{oid, hex_of}
-use Rattle.repository.specs.Unfinished.{is_tmp, is_below_tmp, IsOutside}
-use Rattle.acts.specs.Acts.{Act, Refuses, still, none_loose, rounds_in, last_of}
+use Rattle.git_objects.specs.All.{oid, hex_of}
 use Rattle.git_objects.specs.declared.ids.Id.{Id}
-use Rattle.acts.specs.Ends.{IsFirm, Moments}
-use Rattle.repository.specs.Layout.{object_place, dlrepo, repo_of, config_place, settings_place, main_place, head_place}
-use Rattle.object_store.specs.Objects.{place_in, objects_round}
+use Rattle.repository.specs.All.{is_tmp, is_below_tmp, IsOutside, object_place, dlrepo, repo_of}
+use Rattle.repository.specs.All.{config_place, settings_place, main_place, head_place}
+use Rattle.acts.specs.All.{Act, Refuses, still, none_loose, rounds_in, last_of, IsFirm, Moments}
+use Rattle.acts.specs.All.{Nothing, OldOrNew, NewWithAll}
+use Rattle.object_store.specs.All.{place_in, objects_round}
 use Rattle.object_store.specs.declared.objects.NewObject.{NewObject}
-use Rattle.recursive_save.specs.First.{new_dataset, Parts, dataset_rounds, new_parts, head_text, dataset_config, first_id}
+use Rattle.recursive_save.specs.First.{new_dataset, Parts, dataset_rounds, new_parts, head_text}
+use Rattle.recursive_save.specs.First.{dataset_config, first_id}
 use Rattle.recursive_save.specs.Creating.{create_fault, create_step}
 use Rattle.recursive_save.specs.Creating.{IsVacant}
-use Rattle.acts.specs.Remains.{Nothing, OldOrNew, NewWithAll}
 use Rattle.recursive_save.specs.Laws.{CreateKeeps}
 use Rattle.recursive_save.specs.Remains.{HeldStay, SameOutside, CreateRemains}
 use Rattle.repository.proofs.Parts.{Part, Object, Config, Settings, Main, Head, names_at, part_below, object_is, settings_is, main_is, head_is, other_part}

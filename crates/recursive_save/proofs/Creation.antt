@@ -2,28 +2,21 @@
 use Rattle.std.proofs.Common.{◌≡◌, ◌≢◌, ◌≤◌, ◌<◌, inl, inr, ℕ, Bool, true, false, ◌||◌, cond, nat_lt, IsTrue, List, ◌∷◌, length, ◌+◌, [], Option, None, Some, Ok, Err, refl, sym, ap, ◌∙◌, subst, arith, length-append}
 use Rattle.std.specs.Prelude.{codes}
 use Rattle.std.proofs.lemmas.Bool.{cases_Bool, lt-ltb, le-ltb}
-use Rattle.places.specs.Names.{Names, slashed, text_of}
-use Rattle.places.specs.Ground.{Ground, stands, stands_below, stands_above}
+use Rattle.places.specs.All.{Names, slashed, text_of, Ground, stands, stands_below, stands_above}
 use Rattle.places.proofs.Cuts.{below_text}
-use Rattle.file_store.specs.Disk.{Drive}
-use Rattle.file_store.specs.Ends.{present, KindEnds}
-use Rattle.file_store.specs.Replaced.{only}
+use Rattle.file_store.specs.All.{Drive, present, KindEnds, only, trouble_of}
+use Rattle.file_store.specs.declared.kinds.Kind.{Kind}
+use Rattle.file_store.specs.declared.errors.FileErr.{FileErr}
 use Rattle.faults.specs.declared.faults.Fault.{Fault}
 use Rattle.faults.specs.declared.faults.Fault.TheVariants.{AlreadyThere, Blocked, TooLarge}
-use Rattle.file_store.specs.declared.kinds.Kind.{Kind}
 use Rattle.file_store.specs.declared.kinds.Kind.TheVariants.{Absent, File, Dir}
-use Rattle.file_store.specs.declared.errors.FileErr.{FileErr}
-use Rattle.file_store.specs.declared.errors.FileErr.TheVariants.{Failed, Blocked as FileBlocked, NoMemory as FileNoMemory}
-use Rattle.file_store.specs.Troubles.{trouble_of}
+use Rattle.file_store.specs.declared.errors.FileErr.TheVariants.{Failed, Blocked as FileBlocked}
+use Rattle.file_store.specs.declared.errors.FileErr.TheVariants.{NoMemory as FileNoMemory}
 use Rattle.git_objects.specs.declared.ids.Id.{Id}
-use Rattle.object_store.specs.Looks.{IsFoundAmong}
-use Rattle.object_store.specs.PutActs.{MayPut}
-use Rattle.acts.specs.Acts.{Act, Refuses, still, ending_of, go_on, bind, unless}
-use Rattle.acts.specs.Files.{puts}
-use Rattle.repository.specs.Layout.{tmp_place, repo_of, head_place}
-use Rattle.repository.specs.Limits.{repo_limit, large}
-use Rattle.object_store.specs.PutActs.{puts_objects}
+use Rattle.object_store.specs.All.{IsFoundAmong, MayPut, puts_objects}
 use Rattle.object_store.specs.declared.objects.NewObject.{NewObject}
+use Rattle.acts.specs.All.{Act, Refuses, still, ending_of, go_on, bind, unless, puts}
+use Rattle.repository.specs.All.{tmp_place, repo_of, head_place, repo_limit, large}
 use Rattle.recursive_save.specs.First.{new_dataset, new_parts, head_text}
 use Rattle.recursive_save.specs.Creating.{create_fault, finish, create_step, MayCreate}
 use Rattle.recursive_save.specs.Creating.{middle_files, IsVacant, dataset_step}

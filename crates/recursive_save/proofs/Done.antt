@@ -1,12 +1,11 @@
 -- The act of a dataset that is made.
 use Rattle.std.proofs.Common.{◌≡◌, ℕ, false, List, None, sym, subst, refl}
-use Rattle.places.specs.Names.{Names, has_name}
-use Rattle.places.specs.Ground.{Ground}
+use Rattle.places.specs.All.{Names, has_name, Ground}
 use Rattle.git_objects.specs.declared.ids.Id.{Id}
-use Rattle.repository.specs.Layout.{dlrepo}
+use Rattle.repository.specs.All.{dlrepo}
 use Rattle.repository.proofs.Agreeing.{Agree-outside}
-use Rattle.acts.specs.Acts.{Act}
-use Rattle.file_store.specs.Course.{finally}
+use Rattle.acts.specs.All.{Act}
+use Rattle.file_store.specs.All.{finally}
 use Rattle.recursive_save.specs.First.{new_dataset, new_parts, created, dataset_config, first_id}
 use Rattle.recursive_save.specs.Creating.{create_fault}
 use Rattle.recursive_save.specs.Laws.{IsMade, CreateMakes}

@@ -1,14 +1,14 @@
 -- What a new dataset's literals pass: its person, its further lines and its names.
 use Rattle.std.proofs.Common.{◌≡◌, ℕ, List, [], codes, refl}
 use Rattle.std.specs.Prelude.{IsTrue}
-use Rattle.places.specs.Names.{Names, is_name}
-use Rattle.git_objects.specs.Objects.{is_entry, is_extra, is_person, is_zone}
+use Rattle.places.specs.All.{Names, is_name}
+use Rattle.git_objects.specs.All.{is_entry, is_extra, is_person, is_zone}
 use Rattle.git_objects.specs.declared.entries.Mode.{Mode}
 use Rattle.git_objects.specs.declared.ids.Id.{Id}
-use Rattle.config_text.specs.Texts.{repo_text, made}
-use Rattle.config_text.specs.declared.uuids.Role.TheVariants.{Repository}
+use Rattle.config_text.specs.All.{repo_text, made}
 use Rattle.config_text.specs.declared.repository.Remote.{Remote}
 use Rattle.config_text.specs.declared.sections.Section.{Section}
+use Rattle.config_text.specs.declared.uuids.Role.TheVariants.{Repository}
 use Rattle.recursive_save.specs.First.{settings_text, default_name, default_email}
 
 pub user_is_person : IsTrue (is_person (codes "DataLad User") (codes "user@localhost") (codes "+0000"))

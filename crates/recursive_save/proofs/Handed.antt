@@ -1,16 +1,14 @@
 -- The steps of the writing of a dataset, by the names that the program gives them.
 use Rattle.std.proofs.Common.{◌≡◌, ℕ, Bool, IsTrue, List, [], ◌∷◌, ◌++◌, Result, ap, subst, ◌∙◌}
 use Rattle.std.specs.Prelude.{codes}
-use Rattle.places.specs.Names.{Names}
-use Rattle.file_store.specs.Disk.{Drive}
-use Rattle.file_store.specs.Replaced.{only}
+use Rattle.places.specs.All.{Names}
+use Rattle.file_store.specs.All.{Drive, only}
 use Rattle.faults.specs.declared.faults.Trouble.{Trouble}
-use Rattle.repository.specs.Unfinished.{is_repo}
-use Rattle.acts.specs.Ends.{ActsQuietly}
+use Rattle.repository.specs.All.{is_repo, tmp_place, repo_of, head_place}
+use Rattle.acts.specs.All.{ActsQuietly}
 use Rattle.repository.proofs.Unfinished.{repo_below}
 use Rattle.acts.proofs.Laws.{by_name, handed}
-use Rattle.repository.specs.Layout.{tmp_place, repo_of, head_place}
-use Rattle.object_store.specs.PutActs.{MayPut, puts_objects}
+use Rattle.object_store.specs.All.{MayPut, puts_objects}
 use Rattle.object_store.specs.declared.objects.NewObject.{NewObject}
 use Rattle.recursive_save.specs.First.{head_text}
 

@@ -2,31 +2,28 @@
 use Rattle.std.proofs.Common.{◌≡◌, ◌≤◌, ℕ, Bool, true, false, cond, nat_lt, ◌||◌, List, [], ◌∷◌, ◌++◌, length, Option, None, Some, refl, sym, ap, ◌∙◌, subst, arith}
 use Rattle.std.proofs.lemmas.Bool.{le-ltb, ltb-false}
 use Rattle.std.proofs.lemmas.List.Elements.{All-head}
-use Rattle.places.specs.Names.{Names, text_of}
-use Rattle.places.specs.Ground.{Ground, file_at, stands, stands_below, stands_above}
+use Rattle.places.specs.All.{Names, text_of, Ground, file_at, stands, stands_below, stands_above}
 use Rattle.places.proofs.Standing.{is_shut-remove_open}
-use Rattle.file_store.specs.Course.{Round, changed, finally}
-use Rattle.file_store.specs.Removed.{removal_of}
-use Rattle.file_store.specs.Replaced.{or_next, first_shut, only, round_of}
+use Rattle.file_store.specs.All.{Round, changed, finally, removal_of, or_next, first_shut, only}
+use Rattle.file_store.specs.All.{round_of}
+use Rattle.file_store.specs.declared.replacing.Replacement.{Replacement}
 use Rattle.faults.specs.declared.faults.Fault.{Fault}
 use Rattle.faults.specs.declared.faults.Fault.TheVariants.{AlreadyThere, TooLarge, Blocked}
-use Rattle.file_store.specs.declared.replacing.Replacement.{Replacement}
 use Rattle.file_store.proofs.Course.{SameRounds}
 use Rattle.file_store.proofs.Rounds.{changed-as}
 use Rattle.git_objects.specs.declared.ids.Id.{Id}
-use Rattle.acts.specs.Acts.{Act, Event, Changes, Tells, Gives, Refuses, still, none_loose, ending_of, go_on, bind, unless, gives, says}
-use Rattle.acts.specs.Files.{whole_round, makes, put_act, puts}
+use Rattle.acts.specs.All.{Act, Event, Changes, Tells, Gives, Refuses, still, none_loose, ending_of}
+use Rattle.acts.specs.All.{go_on, bind, unless, gives, says, whole_round, makes, put_act, puts}
 use Rattle.acts.proofs.Replaces.{tmps, changed-append, whole_at_firm}
-use Rattle.repository.specs.Layout.{tmp_place, repo_of, head_place}
-use Rattle.object_store.specs.Objects.{place_in, objects_round}
-use Rattle.repository.specs.Unfinished.{IsOutside}
-use Rattle.object_store.specs.Puts.{first_fault, missing, staging}
-use Rattle.repository.specs.Limits.{large, repo_limit, object_limit}
-use Rattle.object_store.specs.PutActs.{early_fault, long_fault, puts_some, puts_missing, puts_objects}
+use Rattle.repository.specs.All.{tmp_place, repo_of, head_place, IsOutside, large, repo_limit}
+use Rattle.repository.specs.All.{object_limit}
+use Rattle.object_store.specs.All.{place_in, objects_round, first_fault, missing, staging}
+use Rattle.object_store.specs.All.{early_fault, long_fault, puts_some, puts_missing, puts_objects}
 use Rattle.object_store.specs.declared.objects.NewObject.{NewObject}
 use Rattle.object_store.proofs.Ours.{none_held, first_missing, outside_firm, round_enough}
 use Rattle.object_store.proofs.PutActs.{long_fits}
-use Rattle.recursive_save.specs.First.{new_dataset, Parts, dataset_rounds, new_parts, head_text, dataset_config, first_id}
+use Rattle.recursive_save.specs.First.{new_dataset, Parts, dataset_rounds, new_parts, head_text}
+use Rattle.recursive_save.specs.First.{dataset_config, first_id}
 use Rattle.recursive_save.specs.Creating.{create_fault, created_line, finish, create_step}
 use Rattle.recursive_save.specs.Creating.{middle_files, IsVacant, dataset_step}
 use Rattle.recursive_save.proofs.Ours.{AreOurs, staging_ours, middle_ours, head_ours}

@@ -2,14 +2,15 @@
 use Rattle.std.proofs.Common.{◌≡◌, ◌≢◌, ◌<◌, ℕ, zero, suc, ◌+◌, true, false, List, [], ◌∷◌, Some, refl, sym, ap, ◌∙◌, subst, arith}
 use Rattle.std.proofs.lemmas.Bool.{false≢true}
 use Rattle.std.specs.Prelude.{slice_get}
-use Rattle.places.specs.Names.{Names}
-use Rattle.file_store.specs.Replaced.{only, AreApart}
+use Rattle.places.specs.All.{Names}
+use Rattle.file_store.specs.All.{only, AreApart}
 use Rattle.file_store.specs.declared.replacing.Replacement.{Replacement}
-use Rattle.git_objects.specs.Objects.{oid}
-use Rattle.repository.specs.Layout.{repo_of, config_place, settings_place, main_place, head_place, tmp_place, in_tmp}
+use Rattle.git_objects.specs.All.{oid}
+use Rattle.repository.specs.All.{repo_of, config_place, settings_place, main_place, head_place}
+use Rattle.repository.specs.All.{tmp_place, in_tmp}
 use Rattle.repository.proofs.Temporary.{tmp_injective}
 use Rattle.repository.proofs.Parts.{Config, Settings, Main, IsPart, tmp_part, object_part, config_part, settings_part, main_part, head_part, other_part, settings_is, main_is}
-use Rattle.object_store.specs.Puts.{staging}
+use Rattle.object_store.specs.All.{staging}
 use Rattle.object_store.specs.declared.objects.NewObject.{NewObject}
 use Rattle.recursive_save.specs.Creating.{by_tmp, middle_files}
 

@@ -3,22 +3,19 @@ use Rattle.std.proofs.Common.{◌≡◌, ◌≢◌, ◌≤◌, Bool, true, false
 use Rattle.std.specs.FinMap.{insert}
 use Rattle.std.proofs.lemmas.Bool.{false≢true, le-ltb}
 use Rattle.std.proofs.lemmas.List.Elements.{All-head}
-use Rattle.places.specs.Names.{Names, text_of}
-use Rattle.places.specs.Ground.{Ground, file_at, stands_above}
-use Rattle.file_store.specs.Replaced.{staged, stage_block, move_block, or_next, only, AreApart, IsNoTmp}
+use Rattle.places.specs.All.{Names, text_of, Ground, file_at, stands_above}
+use Rattle.file_store.specs.All.{staged, stage_block, move_block, or_next, only, AreApart, IsNoTmp}
+use Rattle.file_store.specs.declared.replacing.Replacement.{Replacement}
 use Rattle.faults.specs.declared.faults.Fault.{Fault}
 use Rattle.faults.specs.declared.faults.Fault.TheVariants.{Blocked}
-use Rattle.file_store.specs.declared.replacing.Replacement.{Replacement}
 use Rattle.file_store.proofs.OneFile.{apart_only}
-use Rattle.repository.specs.Unfinished.{IsOutside}
-use Rattle.acts.specs.Acts.{Refuses, still, unless, ending_of, go_on, bind}
-use Rattle.acts.specs.Files.{put_act, puts, CanReplace}
+use Rattle.repository.specs.All.{IsOutside, tmp_place, in_tmp, repo_of, head_place, large}
+use Rattle.repository.specs.All.{object_limit}
+use Rattle.acts.specs.All.{Refuses, still, unless, ending_of, go_on, bind, put_act, puts}
+use Rattle.acts.specs.All.{CanReplace}
 use Rattle.repository.proofs.Unfinished.{tmp_firm}
-use Rattle.repository.specs.Layout.{tmp_place, in_tmp, repo_of, head_place}
-use Rattle.object_store.specs.Objects.{place_in, object_text}
-use Rattle.object_store.specs.Puts.{first_fault, missing, staging}
-use Rattle.repository.specs.Limits.{large, object_limit}
-use Rattle.object_store.specs.PutActs.{early_fault, long_fault, puts_some, puts_missing, puts_objects}
+use Rattle.object_store.specs.All.{place_in, object_text, first_fault, missing, staging}
+use Rattle.object_store.specs.All.{early_fault, long_fault, puts_some, puts_missing, puts_objects}
 use Rattle.object_store.specs.declared.objects.NewObject.{NewObject}
 use Rattle.object_store.proofs.Ours.{none_held, first_missing}
 use Rattle.object_store.proofs.PutActs.{long_fits}

@@ -1,4 +1,4 @@
 -- The words of this crate, for those above.
 pub use Rattle.recursive_save.specs.Creating.{MayCreate, create_step, created_line}
+pub use Rattle.recursive_save.specs.First.{new_dataset}
 pub use Rattle.recursive_save.specs.Remains.{CreateRemains}
-pub use Rattle.recursive_save.specs.First.{NewDataset, new_dataset}

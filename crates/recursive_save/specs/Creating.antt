@@ -1,21 +1,20 @@
 -- The making of a dataset: why it is refused, what is done, what is said.
-use Rattle.std.specs.Prelude.{◌≡◌, ℕ, Bool, false, IsTrue, ◌||◌, nat_lt, if◌then◌else◌, List, [], ◌∷◌, ◌++◌, length, codes, Option, None, Some, Result, Ok, Err}
-use Rattle.places.specs.Names.{Names, text_of}
-use Rattle.places.specs.Ground.{Ground, stands, stands_below, stands_above}
+use Rattle.std.specs.Prelude.{◌≡◌, ℕ, Bool, false, IsTrue, ◌||◌, nat_lt, if◌then◌else◌, List, []}
+use Rattle.std.specs.Prelude.{◌∷◌, ◌++◌, length, codes, Option, None, Some, Result, Ok, Err}
+use Rattle.places.specs.All.{Names, text_of, Ground, stands, stands_below, stands_above}
 use Rattle.faults.specs.declared.lines.Line.{Line}
 use Rattle.faults.specs.declared.faults.Fault.{Fault}
-use Rattle.faults.specs.declared.faults.Fault.TheVariants.{AlreadyThere, TooLarge, Blocked}
 use Rattle.faults.specs.declared.faults.Trouble.{Trouble}
-use Rattle.file_store.specs.Replaced.{only}
+use Rattle.faults.specs.declared.faults.Fault.TheVariants.{AlreadyThere, TooLarge, Blocked}
+use Rattle.file_store.specs.All.{only}
 use Rattle.file_store.specs.declared.replacing.Replacement.{Replacement}
 use Rattle.git_objects.specs.declared.ids.Id.{Id}
-use Rattle.repository.specs.Layout.{tmp_place, repo_of, config_place, settings_place, main_place, head_place}
-use Rattle.repository.specs.Limits.{repo_limit, large}
-use Rattle.acts.specs.Acts.{Step, gives, unless, says, bind}
-use Rattle.acts.specs.Files.{puts}
-use Rattle.object_store.specs.Looks.{IsFoundAmong}
-use Rattle.object_store.specs.PutActs.{IsTooLong, puts_objects}
-use Rattle.recursive_save.specs.First.{NewDataset, Parts, new_parts, dataset_config, first_id, head_text}
+use Rattle.repository.specs.All.{tmp_place, repo_of, config_place, settings_place, main_place}
+use Rattle.repository.specs.All.{head_place, repo_limit, large}
+use Rattle.acts.specs.All.{Step, gives, unless, says, bind, puts}
+use Rattle.object_store.specs.All.{IsFoundAmong, IsTooLong, puts_objects}
+use Rattle.recursive_save.specs.First.{NewDataset, Parts, new_parts, dataset_config, first_id}
+use Rattle.recursive_save.specs.First.{head_text}
 
 -- A file by way of a numbered temporary place.
 abbrev pub by_tmp : Names → ℕ → Names → List ℕ → Replacement

@@ -1,25 +1,21 @@
 -- A new dataset: its texts, its objects, and the ground that has it.
 use Rattle.std.specs.Prelude.{ℕ, List, [], ◌∷◌, ◌++◌, codes, Some}
-use Rattle.places.specs.Names.{Names}
-use Rattle.places.specs.Ground.{Ground}
-use Rattle.file_store.specs.Course.{Round, finally}
-use Rattle.git_objects.specs.Objects.{oid, hex_of, entry_of, person_of, commit_text}
+use Rattle.places.specs.All.{Names, Ground}
+use Rattle.file_store.specs.All.{Round, finally}
+use Rattle.git_objects.specs.All.{oid, hex_of, entry_of, person_of, commit_text}
 use Rattle.git_objects.specs.declared.objects.ObjKind.TheVariants.{Blob, Tree, Commit}
 use Rattle.git_objects.specs.declared.entries.Mode.TheVariants.{File, Dir}
-use Rattle.config_text.specs.Texts.{printed_section, repo_text, uuid_text, made}
+use Rattle.config_text.specs.All.{printed_section, repo_text, uuid_text, made}
 use Rattle.config_text.specs.declared.uuids.Role.TheVariants.{Dataset, Repository}
+use Rattle.object_store.specs.All.{objects_round}
 use Rattle.object_store.specs.declared.objects.NewObject.{NewObject}
-use Rattle.object_store.specs.Objects.{objects_round}
-use Rattle.repository.specs.Layout.{repo_of, config_place, settings_place, main_place, head_place}
+use Rattle.repository.specs.All.{repo_of, config_place, settings_place, main_place, head_place}
 
 -- `.datalad/config`: the dataset's id.
 unfoldable pub dataset_config : List ℕ → Names → List ℕ
 dataset_config fresh root =
-    printed_section (codes "datalad") (Some (codes "dataset")) ((
-      codes "id",
-      uuid_text
-          (made fresh Dataset root),
-    ) ∷ [])
+    printed_section (codes "datalad") (Some (codes "dataset"))
+    ((codes "id", uuid_text (made fresh Dataset root)) ∷ [])
 
 -- The person of a repository that has set none.
 unfoldable pub default_name : List ℕ

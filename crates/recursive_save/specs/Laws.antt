@@ -1,18 +1,11 @@
 -- What follows of the making of a dataset.
 use Rattle.std.specs.Prelude.{◌≡◌, ℕ, true, false, List, [], ◌∷◌, Some, None}
-use Rattle.places.specs.Names.{Names, has_name}
-use Rattle.places.specs.Ground.{Ground, file_at}
+use Rattle.places.specs.All.{Names, has_name, Ground, file_at}
 use Rattle.faults.specs.declared.faults.Fault.{Fault}
-use Rattle.file_store.specs.Disk.{Disk, Drive, Since, IsImage}
-use Rattle.file_store.specs.Course.{WasOpen}
-use Rattle.file_store.specs.Ends.{present}
+use Rattle.file_store.specs.All.{Disk, Drive, Since, IsImage, WasOpen, present}
 use Rattle.git_objects.specs.declared.ids.Id.{Id}
-use Rattle.repository.specs.Layout.{dlrepo, repo_of}
-use Rattle.repository.specs.Unfinished.{IsOutside}
-use Rattle.repository.specs.Agree.{Agree}
-use Rattle.acts.specs.Acts.{Act, Gives, Refuses, still, lines_in, last_of}
-use Rattle.acts.specs.Ends.{Moments}
-use Rattle.acts.specs.Remains.{Nothing}
+use Rattle.repository.specs.All.{dlrepo, repo_of, IsOutside, Agree}
+use Rattle.acts.specs.All.{Act, Gives, Refuses, still, lines_in, last_of, Moments, Nothing}
 use Rattle.recursive_save.specs.First.{NewDataset, created, dataset_config, first_id}
 use Rattle.recursive_save.specs.Creating.{create_fault, create_step, created_line}
 use Rattle.recursive_save.specs.Remains.{CreateRemains}

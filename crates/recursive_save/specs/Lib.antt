@@ -1,6 +1,6 @@
 pub mod All
-pub mod First
 pub mod Creating
+pub mod First
+pub mod Laws
 pub mod Plans
 pub mod Remains
-pub mod Laws

@@ -1,12 +1,9 @@
 -- What is left of a ground when a dataset was being made, however far that came.
 use Rattle.std.specs.Prelude.{◌≡◌, ◌⊎◌, ℕ, false, List, Option}
-use Rattle.places.specs.Names.{Names, is_above}
-use Rattle.places.specs.Ground.{Ground, file_at}
+use Rattle.places.specs.All.{Names, is_above, Ground, file_at}
 use Rattle.git_objects.specs.declared.objects.ObjKind.{ObjKind}
-use Rattle.repository.specs.Layout.{object_place, head_place}
-use Rattle.repository.specs.Held.{IsHeld}
-use Rattle.acts.specs.Acts.{last_of}
-use Rattle.acts.specs.Remains.{IsFixed, OldOrNew, NewWithAll}
+use Rattle.repository.specs.All.{object_place, head_place, IsHeld}
+use Rattle.acts.specs.All.{last_of, IsFixed, OldOrNew, NewWithAll}
 use Rattle.recursive_save.specs.First.{NewDataset}
 use Rattle.recursive_save.specs.Creating.{create_step}
 

@@ -3,11 +3,10 @@
 // The plan is made before the disk is touched. Then come the objects, the files that only HEAD makes a dataset of, and
 // HEAD last: a crash before it leaves no dataset, and one after it a whole one.
 ghost use Rattle.std.specs.Prelude.{◌≡◌, ◌≤◌, length, IfOk, string_bytes};
-ghost use Rattle.places.specs.Names.{text_of};
-ghost use Rattle.acts.specs.Ends.{Acts, ActsQuietly};
-ghost use Rattle.repository.specs.Layout.{tmp_place as tmp_of, repo_of};
-ghost use Rattle.repository.specs.Limits.{object_limit, repo_limit};
-ghost use Rattle.object_store.specs.PutActs.{MayPut};
+ghost use Rattle.places.specs.All.{text_of};
+ghost use Rattle.acts.specs.All.{Acts, ActsQuietly};
+ghost use Rattle.repository.specs.All.{tmp_place as tmp_of, repo_of, object_limit, repo_limit};
+ghost use Rattle.object_store.specs.All.{MayPut};
 ghost use Rattle.recursive_save.specs.Creating.{created_line, create_step, CreateSays, MayCreate};
 ghost use Rattle.recursive_save.specs.First.{new_dataset};
 ghost use Rattle.recursive_save.specs.Plans.{parts_of};

@@ -1,8 +1,9 @@
 // What a new dataset holds: its texts, and the objects of its first commit.
 ghost use Rattle.std.specs.Prelude.{◌≡◌, ◌++◌, ◌∷◌, [], IfOk, IsTrue};
-ghost use Rattle.git_objects.specs.Objects.{entry_of, is_entry, person_text, commit_text, hex_of};
-ghost use Rattle.config_text.specs.Texts.{made, uuid_text, printed};
-ghost use Rattle.recursive_save.specs.First.{new_dataset, dataset_config, settings_text, default_person, first_message, first_objects, first_id, head_text};
+ghost use Rattle.git_objects.specs.All.{entry_of, is_entry, person_text, commit_text, hex_of};
+ghost use Rattle.config_text.specs.All.{made, uuid_text, printed};
+ghost use Rattle.recursive_save.specs.First.{new_dataset, dataset_config, settings_text, default_person, first_message};
+ghost use Rattle.recursive_save.specs.First.{first_objects, first_id, head_text};
 ghost use Rattle.recursive_save.specs.Plans.{IsPlan};
 
 use config_text::{ConfErr, Entry, RepoConfig, Role, Section, made_uuid, print};

@@ -2,10 +2,9 @@
 use Rattle.std.proofs.Common.{◌≡◌, ℕ, Bool, true, false, ◌&&◌, ◌||◌, List, [], ◌∷◌, ◌++◌, refl, sym, ap, ◌∙◌, append_assoc}
 use Rattle.std.specs.Prelude.{codes, bytes_eq}
 use Rattle.std.proofs.lemmas.Bool.{false_from_ne_true}
-use Rattle.places.specs.Names.{Names, has_name}
-use Rattle.places.specs.Ground.{Ground, file_at}
+use Rattle.places.specs.All.{Names, has_name, Ground, file_at}
 use Rattle.places.proofs.Above.{is_above-sound, first_split}
-use Rattle.git_objects.specs.Objects.{hex_of}
+use Rattle.git_objects.specs.All.{hex_of}
 use Rattle.repository.specs.Layout.{object_place, object_names, in_tmp, tmp_names, dlrepo, repo_of}
 use Rattle.repository.specs.Unfinished.{IsOutside}
 use Rattle.repository.specs.Agree.{Agree, is_store, is_stored}

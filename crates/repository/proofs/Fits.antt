@@ -1,7 +1,7 @@
 -- The text of a repository's place, and that the places below it fit.
 use Rattle.std.proofs.Common.{◌≡◌, ◌≤◌, ◌+◌, ◌∷◌, length, ap, arith, length-append}
 use Rattle.std.specs.Prelude.{codes}
-use Rattle.places.specs.Names.{Names, slash, slashed, text_of, joined}
+use Rattle.places.specs.All.{Names, slash, slashed, text_of, joined}
 use Rattle.places.proofs.Cuts.{below_text}
 use Rattle.repository.specs.Layout.{repo_of}
 

@@ -1,10 +1,11 @@
 -- The places of a dataset's own files, by their parts, and that none is in another's way.
 use Rattle.std.proofs.Common.{◌≡◌, ◌≢◌, ℕ, Bool, true, false, ◌&&◌, List, [], ◌∷◌, ◌++◌, take, drop, refl, sym, ap, ◌∙◌, append_assoc}
 use Rattle.std.specs.Prelude.{codes, decimal, bytes_eq}
-use Rattle.places.specs.Names.{Names, IsAbove, is_above, are_apart}
+use Rattle.places.specs.All.{Names, IsAbove, is_above, are_apart}
 use Rattle.places.proofs.Above.{same_rest, apart-sound, is_above-under}
-use Rattle.git_objects.specs.Objects.{hex_of}
-use Rattle.repository.specs.Layout.{dlrepo, repo_of, config_place, settings_place, main_place, head_place, object_place, tmp_place, in_tmp}
+use Rattle.git_objects.specs.All.{hex_of}
+use Rattle.repository.specs.Layout.{dlrepo, repo_of, config_place, settings_place, main_place}
+use Rattle.repository.specs.Layout.{head_place, object_place, tmp_place, in_tmp}
 
 -- a file of a dataset, or a temporary one
 pub data Part : Type 0 where

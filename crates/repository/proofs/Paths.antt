@@ -13,9 +13,9 @@ use Rattle.std.proofs.lemmas.Str.Ascii.{IsAscii-cons, IsAscii-from_all}
 use Rattle.std.proofs.lemmas.Str.Parse.{digit_at}
 use Rattle.hex.specs.Hex.{encode_with, lower_digits, hex_digit_value}
 use Rattle.hex.proofs.HexLemmas.{length-encode_with, IsAscii-encode_with, IsDigits-lower_digits}
-use Rattle.places.specs.Names.{Names, slash, is_name, pieces, is_path}
+use Rattle.places.specs.All.{Names, slash, is_name, pieces, is_path}
 use Rattle.places.proofs.Texts.{pieces-append, pieces_one}
-use Rattle.git_objects.specs.Objects.{hex_of}
+use Rattle.git_objects.specs.All.{hex_of}
 use Rattle.repository.specs.Layout.{object_names}
 
 -- ---- digits

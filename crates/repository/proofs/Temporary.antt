@@ -2,9 +2,9 @@
 use Rattle.std.proofs.Common.{◌≡◌, ◌≢◌, ◌<◌, ◌^◌, ℕ, true, false, List, [], ◌∷◌, sym, ap, ◌∙◌}
 use Rattle.std.specs.Prelude.{codes, decimal}
 use Rattle.std.proofs.lemmas.Fmt.{decimal_injective}
-use Rattle.places.specs.Names.{Names}
+use Rattle.places.specs.All.{Names}
 use Rattle.places.proofs.Above.{same_rest, is_above-under}
-use Rattle.git_objects.specs.Objects.{hex_of}
+use Rattle.git_objects.specs.All.{hex_of}
 use Rattle.repository.specs.Layout.{object_names, object_place, tmp_names, tmp_place, in_tmp}
 
 pub tmp_inside : (repo : Names) (i : ℕ) → in_tmp repo (tmp_place repo i) ≡ true

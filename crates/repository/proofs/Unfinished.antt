@@ -3,7 +3,7 @@ use Rattle.std.proofs.Common.{◌≡◌, ℕ, Bool, true, false, ◌||◌, ◌&&
 use Rattle.std.specs.Prelude.{codes, bytes_eq}
 use Rattle.std.proofs.lemmas.Bool.{false≢true, false_from_ne_true}
 use Rattle.std.proofs.lemmas.Slice.Eq.{bytes_eq-Decides}
-use Rattle.places.specs.Names.{Names, is_above}
+use Rattle.places.specs.All.{Names, is_above}
 use Rattle.repository.specs.Layout.{dlrepo, repo_of, in_tmp}
 use Rattle.repository.specs.Unfinished.{is_tmp, is_below_tmp, is_repo, IsOutside}
 

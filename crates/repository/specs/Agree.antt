@@ -1,7 +1,6 @@
 -- When two grounds agree.
 use Rattle.std.specs.Prelude.{◌≡◌, ℕ, Bool, false, ◌&&◌, ◌||◌, List, [], ◌∷◌, codes, bytes_eq}
-use Rattle.places.specs.Names.{Names, has_name}
-use Rattle.places.specs.Ground.{Ground, file_at}
+use Rattle.places.specs.All.{Names, has_name, Ground, file_at}
 use Rattle.git_objects.specs.declared.objects.ObjKind.{ObjKind}
 use Rattle.repository.specs.Held.{IsHeld}
 use Rattle.repository.specs.Layout.{dlrepo, repo_of}

@@ -1,17 +1,15 @@
 -- The objects that a repository holds.
 use Rattle.std.specs.Prelude.{◌≡◌, ◌↔◌, ℕ, List, Option, None, Some, bytes_eq, if◌then◌else◌}
 use Rattle.sha1.specs.Sha1.{sha1}
-use Rattle.places.specs.Names.{Names}
-use Rattle.places.specs.Ground.{Ground, file_at}
-use Rattle.git_objects.specs.Objects.{oid, text_of}
-use Rattle.git_objects.specs.Readings.{Object, object_in}
+use Rattle.places.specs.All.{Names, Ground, file_at}
+use Rattle.git_objects.specs.All.{oid, text_of_object, Object, object_in}
 use Rattle.git_objects.specs.declared.objects.ObjKind.{ObjKind}
 use Rattle.repository.specs.Layout.{object_place}
 
 -- An object's text stands at the place of its id.
 pub record IsHeld (g : Ground) (repo : Names) (id : List ℕ) (kind : ObjKind) (body : List ℕ)
     : Type 0 where
-  pub stands : file_at g (object_place repo id) ≡ Some (text_of kind body)
+  pub stands : file_at g (object_place repo id) ≡ Some (text_of_object kind body)
   pub named : oid kind body ≡ id
 
 -- The object with this id in a file, none where the file isn't the text of such an object.

@@ -1,7 +1,7 @@
 -- Where the files of a dataset and of its repository stand.
 use Rattle.std.specs.Prelude.{ℕ, Bool, List, [], ◌∷◌, ◌++◌, take, drop, codes, decimal}
-use Rattle.places.specs.Names.{Names, is_above}
-use Rattle.git_objects.specs.Objects.{hex_of}
+use Rattle.places.specs.All.{Names, is_above}
+use Rattle.git_objects.specs.All.{hex_of}
 
 -- The name of a repository's directory.
 abbrev pub dlrepo : List ℕ

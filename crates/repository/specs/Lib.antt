@@ -1,4 +1,5 @@
 pub mod Agree
+pub mod All
 pub mod Held
 pub mod Layout
 pub mod Limits

@@ -1,6 +1,6 @@
 -- How long the text of a repository's place may be.
 use Rattle.std.specs.Prelude.{ℕ, length, Option, Some}
-use Rattle.places.specs.Names.{Names, text_of}
+use Rattle.places.specs.All.{Names, text_of}
 use Rattle.faults.specs.declared.faults.Fault.{Fault}
 use Rattle.faults.specs.declared.faults.Fault.TheVariants.{TooLarge}
 

@@ -1,7 +1,7 @@
 -- The places of unfinished writes, of which nothing is said.
-use Rattle.std.specs.Prelude.{◌≡◌, ◌⊎◌, Bool, true, false, ◌&&◌, ◌||◌, None, [], ◌∷◌, bytes_eq, codes}
-use Rattle.places.specs.Names.{Names}
-use Rattle.places.specs.Ground.{Ground, file_at}
+use Rattle.std.specs.Prelude.{◌≡◌, ◌⊎◌, Bool, true, false, ◌&&◌, ◌||◌, None, [], ◌∷◌, bytes_eq}
+use Rattle.std.specs.Prelude.{codes}
+use Rattle.places.specs.All.{Names, Ground, file_at}
 use Rattle.repository.specs.Layout.{in_tmp}
 
 -- Something below `tmp`.

@@ -1,8 +1,9 @@
 // The places of a dataset and of its repository.
 ghost use Rattle.std.specs.Prelude.{◌≡◌, ◌≤◌, ◌++◌, length, IfOk, IsTrue, string_bytes, codes, take, drop, ◌∷◌};
-ghost use Rattle.places.specs.Names.{is_path, pieces, text_of};
-ghost use Rattle.git_objects.specs.Objects.{hex_of};
-ghost use Rattle.repository.specs.Layout.{repo_of, config_place, settings_place, main_place, head_place, object_names, object_place, tmp_place};
+ghost use Rattle.places.specs.All.{is_path, pieces, text_of};
+ghost use Rattle.git_objects.specs.All.{hex_of};
+ghost use Rattle.repository.specs.Layout.{repo_of, config_place, settings_place, main_place, head_place, object_names};
+ghost use Rattle.repository.specs.Layout.{object_place, tmp_place};
 ghost use Rattle.repository.specs.Limits.{repo_limit, object_limit};
 
 use git_objects::Id;

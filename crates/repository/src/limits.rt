@@ -1,6 +1,6 @@
 // How long the text of a repository's place may be.
 ghost use Rattle.std.specs.Prelude.{◌≡◌, length, string_bytes, IfOk};
-ghost use Rattle.places.specs.Names.{text_of};
+ghost use Rattle.places.specs.All.{text_of};
 ghost use Rattle.faults.specs.declared.faults.Fault.TheVariants.{TooLarge};
 
 use faults::Fault;

@@ -1,10 +1,11 @@
 -- A disk in memory, by the ground that it began with and the calls that changed it.
 use Rattle.std.specs.Prelude.{List, [], fold, if◌then◌else◌}
-use Rattle.places.specs.Names.{Names}
-use Rattle.places.specs.Ground.{Ground, stands}
-use Rattle.file_store.specs.Disk.{Disk, History, Drive, at_rest, next, wrote, appended, renamed, removed, synced}
+use Rattle.places.specs.All.{Names, Ground, stands}
+use Rattle.file_store.specs.Disk.{Disk, History, Drive, at_rest, next, wrote, appended, renamed}
+use Rattle.file_store.specs.Disk.{removed, synced}
 use Rattle.file_store.specs.declared.memory.disk.Call.{Call}
-use Rattle.file_store.specs.declared.memory.disk.Call.TheVariants.{Write, Append, Rename, Remove, Barrier}
+use Rattle.file_store.specs.declared.memory.disk.Call.TheVariants.{Write, Append, Rename, Remove}
+use Rattle.file_store.specs.declared.memory.disk.Call.TheVariants.{Barrier}
 
 -- The history of a disk that has begun with this ground, all of it safe.
 abbrev pub began : Ground → History

@@ -1,8 +1,7 @@
 -- What a disk in memory has been.
 use Rattle.std.specs.Prelude.{◌≡◌, ℕ, List, Option, is_some, MatchOption}
 use Rattle.std.proofs.Common.{◌∙◌, ap}
-use Rattle.places.specs.Names.{Names}
-use Rattle.places.specs.Ground.{Ground, file_at, IsGround}
+use Rattle.places.specs.All.{Names, Ground, file_at, IsGround}
 use Rattle.file_store.specs.Disk.{History, IsImage}
 use Rattle.file_store.specs.Memory.Calls.{began, history_of}
 use Rattle.file_store.specs.Memory.Images.{IsLeft}

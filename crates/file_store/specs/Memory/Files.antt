@@ -1,8 +1,7 @@
 -- What files in memory tell, and how they come of a list.
 use Rattle.std.specs.Prelude.{◌≡◌, ℕ, List, Option, None, Some, Result, Ok, Err, Vec, MatchOption}
 use Rattle.std.specs.declared.alloc.Global.{Global}
-use Rattle.places.specs.Names.{Names}
-use Rattle.places.specs.Ground.{Ground, IsGround}
+use Rattle.places.specs.All.{Names, Ground, IsGround}
 use Rattle.file_store.specs.Disk.{Drive, IsImage}
 use Rattle.file_store.specs.Memory.Calls.{untouched}
 use Rattle.file_store.specs.Memory.Images.{IsLeft}
@@ -18,11 +17,11 @@ drive_of files = record { history = history_in files.disk; faults = files.plan.f
 
 -- The files of the list stand and are safe, or the first place that clashes with an earlier one is
 -- named.
-abbrev pub ListEnds : List (Names × Vec ℕ Global) → Result MemFiles MemErr → Type 0
-ListEnds list (Ok files) =
+abbrev pub FromListEnds : List (Names × Vec ℕ Global) → Result MemFiles MemErr → Type 0
+FromListEnds list (Ok files) =
     (drive_of files ≡ untouched (ground_of list)) × (clash_of (places_in list) ≡ None)
-ListEnds list (Err (Clash at)) = clash_of (places_in list) ≡ Some at
-ListEnds list (Err NoMemory) = Unit {0}
+FromListEnds list (Err (Clash at)) = clash_of (places_in list) ≡ Some at
+FromListEnds list (Err NoMemory) = Unit {0}
 
 -- What a crash leaves by these choices, all of it safe, which is an image of the disk; none where
 -- it would have a file above another.

@@ -1,10 +1,9 @@
 -- What a crash may leave, by a choice for each place at which it has one.
-use Rattle.std.specs.Prelude.{◌≡◌, ◌==◌, ◌/◌, ℕ, if◌then◌else◌, false, List, length, take, get_or, replicate, Option, Some, option_map}
+use Rattle.std.specs.Prelude.{◌≡◌, ◌==◌, ◌/◌, ℕ, if◌then◌else◌, false, List, length, take, get_or}
+use Rattle.std.specs.Prelude.{replicate, Option, Some, option_map}
 use Rattle.std.specs.List.{list_any, slice_get}
 use Rattle.std.specs.List.Sorted.{IsStrictlySortedBy}
-use Rattle.places.specs.Names.{Names}
-use Rattle.places.specs.Order.{place_cmp, place_eq}
-use Rattle.places.specs.Ground.{Ground, file_at}
+use Rattle.places.specs.All.{Names, place_cmp, place_eq, Ground, file_at}
 use Rattle.file_store.specs.Disk.{Disk, is_open}
 
 -- The places at which a crash may leave something else than what stands there, in byte order.

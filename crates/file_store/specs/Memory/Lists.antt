@@ -1,12 +1,11 @@
 -- Lists of files, and the ground that each one makes.
-use Rattle.std.specs.Prelude.{◌≡◌, ℕ, Bool, true, false, not, ◌||◌, if◌then◌else◌, List, [], ◌∷◌, ◌++◌, map, Option, None, Some, Result, Ok, Err, Vec}
+use Rattle.std.specs.Prelude.{◌≡◌, ℕ, Bool, true, false, not, ◌||◌, if◌then◌else◌, List, [], ◌∷◌}
+use Rattle.std.specs.Prelude.{◌++◌, map, Option, None, Some, Result, Ok, Err, Vec}
 use Rattle.std.specs.declared.alloc.Global.{Global}
 use Rattle.std.specs.List.{list_any}
 use Rattle.std.specs.List.Sorted.{IsStrictlySortedBy}
 use Rattle.std.specs.FinMap.{insert, from_entries}
-use Rattle.places.specs.Names.{Names, are_apart}
-use Rattle.places.specs.Order.{place_cmp}
-use Rattle.places.specs.Ground.{Ground, stands, is_shut, IsGround}
+use Rattle.places.specs.All.{Names, are_apart, place_cmp, Ground, stands, is_shut, IsGround}
 use Rattle.file_store.specs.declared.memory.errors.MemErr.{MemErr}
 use Rattle.file_store.specs.declared.memory.errors.MemErr.TheVariants.{Clash, NoMemory}
 

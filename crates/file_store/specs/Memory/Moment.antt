@@ -1,9 +1,7 @@
 -- A disk of one moment, as the replay of its calls keeps it.
 use Rattle.std.specs.Prelude.{ℕ, Bool, not, ◌||◌, List}
 use Rattle.std.specs.BTreeSet.{contains}
-use Rattle.places.specs.Names.{Names}
-use Rattle.places.specs.Order.{place_cmp}
-use Rattle.places.specs.Ground.{file_at}
+use Rattle.places.specs.All.{Names, place_cmp, file_at}
 use Rattle.file_store.specs.Disk.{Disk, same_file}
 use Rattle.file_store.specs.declared.memory.moment.Moment.{Moment}
 

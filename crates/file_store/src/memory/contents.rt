@@ -4,9 +4,7 @@ ghost use Rattle.std.specs.FinMap.{empty, insert, remove};
 ghost use Rattle.std.specs.List.{list_any};
 ghost use Rattle.std.specs.BTreeMap.{keys, is_at, IsOrdered};
 ghost use Rattle.std.specs.BTreeSet.{contains};
-ghost use Rattle.places.specs.Names.{Names, is_above};
-ghost use Rattle.places.specs.Order.{place_cmp};
-ghost use Rattle.places.specs.Ground.{file_at, stands, is_shut, stands_below, IsGround};
+ghost use Rattle.places.specs.All.{Names, is_above, place_cmp, file_at, stands, is_shut, stands_below, IsGround};
 ghost use Rattle.file_store.specs.Course.{with_file};
 ghost use Rattle.file_store.specs.Disk.{same_file};
 ghost use Rattle.file_store.specs.Kinds.{AreListed, IsListing};
@@ -25,7 +23,7 @@ pub(crate) struct Contents {
 }
 
 impl Model for Contents {
-    ghost use Rattle.places.specs.Ground.{Ground, ground_code};
+    ghost use Rattle.places.specs.All.{Ground, ground_code};
     ghost use Rattle.file_store.specs.Memory.Lists.{ground_of};
 
     ghost Value = { Ground };

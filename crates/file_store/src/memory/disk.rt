@@ -1,10 +1,10 @@
 // A disk in memory, which keeps the ground that it began with and the calls that changed it. No call of it fails but
 // for want of memory, and then nothing has changed.
-ghost use Rattle.std.specs.Prelude.{◌≡◌, ◌++◌, [], ◌∷◌, List, ℕ, true, false, OnOk, OnErr, IfOk, option_copied, option_map, unwrap_or};
+ghost use Rattle.std.specs.Prelude.{◌≡◌, ◌++◌, [], ◌∷◌, List, ℕ, true, false, OnOk, OnErr, IfOk, option_copied};
+ghost use Rattle.std.specs.Prelude.{option_map, unwrap_or};
 ghost use Rattle.std.specs.FinMap.{insert};
 ghost use Rattle.std.proofs.Props.{props};
-ghost use Rattle.places.specs.Names.{Names};
-ghost use Rattle.places.specs.Ground.{file_at, stands, stands_below, is_shut, IsGround};
+ghost use Rattle.places.specs.All.{Names, file_at, stands, stands_below, is_shut, IsGround};
 ghost use Rattle.file_store.specs.Kinds.{AreListed, IsListing};
 ghost use Rattle.file_store.specs.Memory.Calls.{history_of};
 ghost use Rattle.file_store.specs.Memory.Lists.{IsListOf};

@@ -29,7 +29,7 @@ impl MemFiles {
     ghost use Rattle.file_store.specs.Memory.Calls.{untouched};
     ghost use Rattle.file_store.specs.Ends.{present};
     ghost use Rattle.file_store.specs.Memory.Lists.{IsListOf};
-    ghost use Rattle.file_store.specs.Memory.Files.{drive_of, ListEnds, ImageEnds};
+    ghost use Rattle.file_store.specs.Memory.Files.{drive_of, FromListEnds, ImageEnds};
     ghost use Rattle.file_store.specs.Memory.Images.{AreOpen};
     ghost use Rattle.file_store.specs.Memory.Plan.{NoneFails};
 
@@ -47,7 +47,7 @@ impl MemFiles {
     /// These files, all of them safe, and no call that fails. Clash names the first place that is an earlier one, or
     /// lies above or below one.
     pub fn from_list(alloc: Global, list: Vec<(Place, Vec<u8>)>) -> Result<MemFiles, MemErr>
-        ensures ends { ListEnds list.items result }
+        ensures ends { FromListEnds list.items result }
         ensures plan { IfOk result (λ files. NoneFails files.plan) }
     {
         let first = contents_of(alloc, list.as_slice())?;
@@ -118,8 +118,10 @@ impl Files for MemFiles {
     ghost use Rattle.std.specs.Prelude.{true};
     ghost use Rattle.file_store.specs.Memory.Disk.{grounded_in};
     ghost use Rattle.file_store.specs.Memory.Files.{drive_of};
-    ghost use Rattle.file_store.specs.Disk.{MayStep, IsWritten, IsRenamed, IsRemoved, IsSynced, wrote, appended, renamed, removed, synced};
-    ghost use Rattle.file_store.specs.Ends.{KindEnds, SizeEnds, ReadEnds, PartEnds, ListEnds, WriteEnds, AppendEnds, RenameEnds, RemoveEnds, BarrierEnds};
+    ghost use Rattle.file_store.specs.Disk.{MayStep, IsWritten, IsRenamed, IsRemoved, IsSynced, wrote, appended};
+    ghost use Rattle.file_store.specs.Disk.{renamed, removed, synced};
+    ghost use Rattle.file_store.specs.Ends.{KindEnds, SizeEnds, ReadEnds, PartEnds, ListEnds, WriteEnds, AppendEnds};
+    ghost use Rattle.file_store.specs.Ends.{RenameEnds, RemoveEnds, BarrierEnds};
     ghost use Rattle.file_store.specs.Memory.Calls.{with_change, with_change_at};
     ghost use Rattle.file_store.specs.Memory.Turns.{ReadsByTurn, ChangesByTurn};
 
@@ -182,8 +184,8 @@ impl Files for MemFiles {
         buffer: &mut [u8],
     ) -> Result<usize, FileErr>
         ensures later { (drive_of self.old).faults ≤ (drive_of self.new).faults }
-        ensures ends { PartEnds true place.now from buffer.old buffer.new (drive_of self.old)
-            (drive_of self.new) result }
+        ensures ends { PartEnds true (record { place = place.now; from = from; buffer = buffer.old }) buffer.new
+            (drive_of self.old) (drive_of self.new) result }
         ensures turn { ReadsByTurn self.old self.new result }
     {
         if self.plan.next() != Turn::Works {

@@ -1,9 +1,7 @@
 // A disk at one moment, with what of it is safe and the places that are torn.
 ghost use Rattle.std.specs.Prelude.{◌≡◌, ◌&&◌, ◌||◌, List, ℕ, IfOk, OnOk, option_map};
 ghost use Rattle.std.specs.BTreeSet.{contains};
-ghost use Rattle.places.specs.Names.{Names};
-ghost use Rattle.places.specs.Order.{place_cmp, place_eq};
-ghost use Rattle.places.specs.Ground.{stands};
+ghost use Rattle.places.specs.All.{Names, place_cmp, place_eq, stands};
 ghost use Rattle.file_store.specs.Disk.{at_rest, wrote, appended, renamed, synced, is_open};
 ghost use Rattle.file_store.specs.Memory.Calls.{after_call};
 ghost use Rattle.file_store.specs.Memory.Images.{torn_by, left_by};
@@ -35,7 +33,7 @@ impl Moment {
         })
     }
 
-    // Goes on by one call.
+    // GoesAlong on by one call.
     pub(crate) fn make(&mut self, alloc: Global, call: &Call) -> Result<(), AllocError>
         ensures { OnOk result (disk_of self.new ≡ after_call call.now (disk_of self.old)) }
     {

@@ -3,7 +3,7 @@ ghost use Rattle.std.specs.Prelude.{◌≡◌, ◌==◌, ◌<◌, List, ℕ, str
 ghost use Rattle.std.specs.List.{AllByRecursion, before_first};
 ghost use Rattle.std.specs.String.{string_cmp};
 ghost use Rattle.std.specs.BTreeMap.{keys, IsOrdered, get_by_text};
-ghost use Rattle.places.specs.Names.{slash, IsPlace, IsPathBelow, IsAtOrAbove};
+ghost use Rattle.places.specs.All.{slash, IsPlace, IsPathBelow, IsAtOrAbove};
 ghost use Rattle.file_store.specs.Named.{seen, seen_among, as_items, kind_of_path};
 
 use crate::kinds::{Item, Kind};

@@ -1,8 +1,8 @@
 use Rattle.std.proofs.Common.{Option, Ok, Err, ◌∙◌, sym, subst, refl}
-use Rattle.places.specs.Names.{Names}
+use Rattle.places.specs.All.{Names}
 use Rattle.faults.specs.declared.faults.Fault.TheVariants.{BadPath}
 use Rattle.faults.specs.declared.faults.Trouble.TheVariants.{Refused}
-use Rattle.acts.specs.Ends.{Acts}
+use Rattle.acts.specs.All.{Acts}
 use Rattle.acts.proofs.Laws.{seq, fails, exits, starves, done, refused}
 use Rattle.datalad_cli.specs.Commands.{Create, step_of, MayAnswer}
 use Rattle.datalad_cli.proofs.top.act.Goals as goal

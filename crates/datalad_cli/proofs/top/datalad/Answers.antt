@@ -1,10 +1,11 @@
 use Rattle.std.proofs.Common.{◌≡◌, ◌∙◌, refl, sym, ap, subst, List, [], ℕ, Option, None, map, string_bytes}
 use Rattle.faults.specs.declared.faults.Fault.{Fault}
 use Rattle.faults.specs.declared.lines.Line.{Line}
-use Rattle.file_store.specs.Ends.{present}
-use Rattle.acts.specs.Ends.{Acts, Moments}
+use Rattle.file_store.specs.All.{present}
+use Rattle.acts.specs.All.{Acts, Moments}
 use Rattle.datalad_cli.specs.Answer.{Call, call_of}
-use Rattle.datalad_cli.specs.Commands.{Command, Create, step_of, MayAnswer, MaySay, Reading, form_reading}
+use Rattle.datalad_cli.specs.Commands.{Command, Create, step_of, MayAnswer, MaySay, Reading}
+use Rattle.datalad_cli.specs.Commands.{form_reading}
 use Rattle.datalad_cli.specs.Decides.{MayEnd, WordsDecide}
 use Rattle.datalad_cli.specs.Ends.{Telling, World, CallEnds, CallGoes, telling_of, world_of}
 use Rattle.datalad_cli.specs.Reports.{ReportEnds}

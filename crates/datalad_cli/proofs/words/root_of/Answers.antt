@@ -1,7 +1,7 @@
 use Rattle.std.proofs.Common.{Some, Err, sym, ap, ◌∙◌, subst}
-use Rattle.places.specs.Names.{Names, IsPlace, has_name}
+use Rattle.places.specs.All.{Names, IsPlace, has_name}
 use Rattle.places.specs.declared.place.PlaceErr.{PlaceErr}
-use Rattle.repository.specs.Layout.{dlrepo}
+use Rattle.repository.specs.All.{dlrepo}
 use Rattle.datalad_cli.proofs.Leads.{leads_there, leads_inside, leads_nowhere}
 use Rattle.datalad_cli.proofs.words.root_of.Goals as goal
 

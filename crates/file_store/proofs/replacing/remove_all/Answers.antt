@@ -2,7 +2,7 @@ use Rattle.std.proofs.Common.{List, ◌≡◌, ◌∙◌, [], drop, refl, sym, a
 use Rattle.std.proofs.lemmas.List.{drop_all}
 use Rattle.std.proofs.lemmas.Option.{slice_get_read}
 use Rattle.std.proofs.lemmas.Result.{err_from_is_err_and}
-use Rattle.places.specs.Names.{Names}
+use Rattle.places.specs.All.{Names}
 use Rattle.file_store.specs.Course.{changed}
 use Rattle.file_store.specs.Ends.{present}
 use Rattle.file_store.specs.Removed.{removal_of}

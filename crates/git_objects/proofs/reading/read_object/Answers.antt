@@ -1,6 +1,6 @@
 use Rattle.std.proofs.Common.{◌+◌, ◌≤◌, ◌++◌, ◌∙◌, List, ℕ, length, ap, sym, arith}
 use Rattle.std.specs.Prelude.{is_some}
-use Rattle.git_objects.specs.Kinds.{text_of}
+use Rattle.git_objects.specs.Kinds.{text_of_object}
 use Rattle.git_objects.proofs.ObjectTexts.{no_text, read_back}
 use Rattle.git_objects.proofs.Readings.{without_nul, after_position, other_header, object_text}
 use Rattle.git_objects.proofs.reading.read_object.Goals as goal
@@ -32,4 +32,4 @@ pub returns-clause-each : goal.returns-clause-each
 returns-clause-each c =
     let start = c.in_ok-start.field-0 + 1 in
     let whole = c.split_at.ensures.by_index.0 ∙ ap (λ (z : List ℕ). z ++ c.split_at.result.1.now) c.in_ok-kind.ensures in
-    read_back c.args.text.now (c.in_ok-kind.kind, start) (let within : start ≤ length c.args.text.now = omega (arith, c.split_at.ensures.front_len) in within) (whole ∙ ap (text_of c.in_ok-kind.kind) c.split_at.ensures.back)
+    read_back c.args.text.now (c.in_ok-kind.kind, start) (let within : start ≤ length c.args.text.now = omega (arith, c.split_at.ensures.front_len) in within) (whole ∙ ap (text_of_object c.in_ok-kind.kind) c.split_at.ensures.back)

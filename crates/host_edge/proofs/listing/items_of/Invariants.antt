@@ -1,7 +1,6 @@
 use Rattle.std.proofs.Common.{◌≡◌, ◌++◌, true}
 use Rattle.std.specs.List.{list_all}
-use Rattle.file_store.specs.Kinds.{is_item_name, is_there, names_in}
-use Rattle.file_store.specs.Named.{as_items}
+use Rattle.file_store.specs.All.{is_item_name, is_there, names_in, as_items}
 use Rattle.host_edge.proofs.listing.items_of.Given as goal
 
 abbrev pub invariant-loop-name : goal.invariant-loop-name

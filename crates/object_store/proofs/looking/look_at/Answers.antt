@@ -1,12 +1,11 @@
 use Rattle.std.proofs.Common.{◌≡◌, ◌∙◌, ◌++◌, ◌∷◌, [], ℕ, List, Option, Some, Vec, sym, ap, subst}
 use Rattle.std.specs.Prelude.{option_map}
 use Rattle.std.specs.declared.alloc.Global.{Global}
-use Rattle.places.specs.Names.{Names}
-use Rattle.places.specs.Ground.{file_at}
-use Rattle.file_store.specs.Ends.{present}
-use Rattle.faults.specs.declared.faults.Fault.{Fault}
+use Rattle.places.specs.All.{Names, file_at}
+use Rattle.file_store.specs.All.{present}
 use Rattle.file_store.specs.declared.replacing.Replacement.{Replacement}
-use Rattle.repository.specs.Layout.{object_place}
+use Rattle.faults.specs.declared.faults.Fault.{Fault}
+use Rattle.repository.specs.All.{object_place}
 use Rattle.object_store.specs.Objects.{place_in}
 use Rattle.object_store.specs.Looks.{HaveIds}
 use Rattle.object_store.specs.Puts.{found_fault, fault_in}

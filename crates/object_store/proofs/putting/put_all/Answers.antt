@@ -1,8 +1,7 @@
 use Rattle.std.proofs.Common.{◌≡◌, ◌≤◌, ◌<◌, ◌==◌, ◌^◌, ◌∙◌, Bool, List, length, Vec, Ok, Err, true, false, refl, sym, ap, subst, arith, rules}
 use Rattle.std.specs.declared.alloc.Global.{Global}
-use Rattle.places.specs.Names.{text_of, Names}
-use Rattle.file_store.specs.Disk.{Drive}
-use Rattle.file_store.specs.Replaced.{AreApart}
+use Rattle.places.specs.All.{text_of, Names}
+use Rattle.file_store.specs.All.{Drive, AreApart}
 use Rattle.file_store.specs.declared.replacing.Replacement.{Replacement}
 use Rattle.acts.proofs.Laws.{exits, starved, starved_early}
 use Rattle.object_store.specs.Looks.{AreFiles}

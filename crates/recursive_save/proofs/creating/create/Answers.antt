@@ -1,10 +1,10 @@
 use Rattle.std.proofs.Common.{rules, ◌≡◌, ◌≢◌, ◌≤◌, ◌++◌, ◌∷◌, ◌∙◌, [], ap, length, string_bytes}
-use Rattle.places.specs.Names.{text_of}
+use Rattle.places.specs.All.{text_of}
 use Rattle.file_store.specs.declared.kinds.Kind.TheVariants.{Absent}
-use Rattle.file_store.specs.Ends.{present}
+use Rattle.file_store.specs.All.{present}
 use Rattle.acts.proofs.Laws.{seq, fails, exits, starved_early, stops_on, pushed, quiet, by_name, done_as, same_act, same_lines, after_reading, handed}
 use Rattle.acts.proofs.Looks.{read_fails}
-use Rattle.repository.specs.Layout.{repo_of}
+use Rattle.repository.specs.All.{repo_of}
 use Rattle.recursive_save.specs.Creating.{dataset_step}
 use Rattle.recursive_save.specs.Creating.{create_fault}
 use Rattle.recursive_save.specs.First.{Parts}

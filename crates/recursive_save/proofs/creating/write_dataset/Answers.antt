@@ -1,5 +1,5 @@
 use Rattle.std.proofs.Common.{ap, ◌∙◌, sym, subst}
-use Rattle.acts.specs.Files.{puts, CanReplace}
+use Rattle.acts.specs.All.{puts, CanReplace}
 use Rattle.acts.proofs.Laws.{seq, fails, exits, starved, by_name, handed}
 use Rattle.recursive_save.specs.Plans.{parts_of}
 use Rattle.recursive_save.specs.First.{head_text}

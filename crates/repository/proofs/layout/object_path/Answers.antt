@@ -3,8 +3,8 @@ use Rattle.std.specs.Prelude.{string_bytes}
 use Rattle.std.specs.Str.{IsUtf8}
 use Rattle.std.proofs.lemmas.Grind.{common_steps}
 use Rattle.std.proofs.lemmas.Str.{IsUtf8-from_ascii}
-use Rattle.places.specs.Names.{is_path, pieces}
-use Rattle.git_objects.specs.Objects.{hex_of}
+use Rattle.places.specs.All.{is_path, pieces}
+use Rattle.git_objects.specs.All.{hex_of}
 use Rattle.repository.proofs.Paths.{digits_of_id, path_of_digits, object_pieces, object_is_path, object_path_ascii}
 use Rattle.repository.proofs.layout.object_path.Goals as goal
 

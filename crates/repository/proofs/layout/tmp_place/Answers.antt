@@ -1,5 +1,5 @@
 use Rattle.std.proofs.Common.{◌≡◌, ◌∙◌, ap, length, arith, rules}
-use Rattle.places.specs.Names.{is_path, pieces}
+use Rattle.places.specs.All.{is_path, pieces}
 use Rattle.places.proofs.Cuts.{base_le}
 use Rattle.repository.proofs.Paths.{tmp_path, tmp_pieces, tmp_is_path, tmp_path_size}
 use Rattle.repository.proofs.layout.tmp_place.Goals as goal

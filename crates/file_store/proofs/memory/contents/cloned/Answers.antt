@@ -1,6 +1,6 @@
 use Rattle.std.proofs.Common.{rules, sym, ◌∙◌, ap}
 use Rattle.std.specs.BTreeMap.{IsOrdered}
-use Rattle.places.specs.Order.{place_cmp}
+use Rattle.places.specs.All.{place_cmp}
 use Rattle.file_store.proofs.Laid.{laid, laid-ground_of}
 use Rattle.file_store.proofs.memory.contents.cloned.Goals as goal
 

@@ -2,7 +2,7 @@ use Rattle.std.proofs.Common.{◌||◌, sym, ◌∙◌, ap}
 use Rattle.std.specs.List.{list_any}
 use Rattle.std.specs.BTreeMap.{is_at}
 use Rattle.std.specs.BTreeSet.{contains}
-use Rattle.places.specs.Order.{place_cmp}
+use Rattle.places.specs.All.{place_cmp}
 use Rattle.file_store.proofs.Noted.{note_more}
 use Rattle.file_store.proofs.memory.contents.note_keys.Goals as goal
 

@@ -2,8 +2,7 @@ use Rattle.std.proofs.Common.{◌≡◌, ◌||◌, ℕ, List}
 use Rattle.std.specs.List.{list_any}
 use Rattle.std.specs.BTreeMap.{is_at}
 use Rattle.std.specs.BTreeSet.{contains}
-use Rattle.places.specs.Names.{Names}
-use Rattle.places.specs.Order.{place_cmp}
+use Rattle.places.specs.All.{Names, place_cmp}
 use Rattle.file_store.proofs.memory.moment.note_all.Given as goal
 
 abbrev pub invariant-loop-place : goal.invariant-loop-place

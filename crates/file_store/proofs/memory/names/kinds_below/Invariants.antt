@@ -1,7 +1,7 @@
 use Rattle.std.proofs.Common.{◌≡◌, ℕ, List, fold}
 use Rattle.std.specs.List.{AllByRecursion}
 use Rattle.std.specs.BTreeMap.{keys, get_by_text}
-use Rattle.places.specs.Names.{IsPlace}
+use Rattle.places.specs.All.{IsPlace}
 use Rattle.file_store.specs.Named.{seen, seen_among}
 use Rattle.file_store.proofs.memory.names.kinds_below.Given as goal
 

@@ -1,6 +1,6 @@
 use Rattle.std.proofs.Common.{ℕ, List, sym, ◌∙◌, subst}
 use Rattle.std.specs.BTreeMap.{get_by_text}
-use Rattle.places.specs.Names.{IsPathBelow}
+use Rattle.places.specs.All.{IsPathBelow}
 use Rattle.file_store.proofs.Named.{seen_away, noted}
 use Rattle.file_store.proofs.memory.names.note.Goals as goal
 

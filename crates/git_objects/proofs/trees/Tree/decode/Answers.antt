@@ -2,7 +2,7 @@ use Rattle.std.proofs.Common.{◌≡◌, ◌∙◌, ◌++◌, ◌∷◌, [], Lis
 use Rattle.std.specs.List.{All}
 use Rattle.std.proofs.lemmas.List.Elements.{All-append, All-cons, All-nil}
 use Rattle.git_objects.specs.Entries.{is_tree, tree_text}
-use Rattle.git_objects.specs.Decoding.{IsStored}
+use Rattle.git_objects.specs.Decoding.{IsEntryStored}
 use Rattle.git_objects.specs.declared.entries.TreeEntry.{TreeEntry}
 use Rattle.git_objects.proofs.Cutting.{filled}
 use Rattle.git_objects.proofs.EntryTexts.{shorter}
@@ -37,7 +37,7 @@ loop-rest-preserved c =
     let items : c.push.new.self.items ≡ c.loop-rest.entries.items ++ c.in-Some.entry ∷ [] = c.in_ok-push.ensures.items in
     let valid = sym (c.may_follow.ensures ∙ ap (λ (z : List TreeEntry). is_tree (z ++ c.in-Some.entry ∷ [])) c.as_slice.ensures.value) ∙ c.if-not-may_follow.false in
     record {
-      stored = subst (λ (z : List TreeEntry). All IsStored z) (sym items) (All-append IsStored c.loop-rest.entries.items (c.in-Some.entry ∷ []) inv.stored (All-cons IsStored c.in-Some.entry [] r.stored (All-nil IsStored)));
+      stored = subst (λ (z : List TreeEntry). All IsEntryStored z) (sym items) (All-append IsEntryStored c.loop-rest.entries.items (c.in-Some.entry ∷ []) inv.stored (All-cons IsEntryStored c.in-Some.entry [] r.stored (All-nil IsEntryStored)));
       valid = ap is_tree items ∙ valid;
       text = subst (λ (z : List TreeEntry). c.args.body.now ≡ tree_text z ++ c.in-Some.after.now) (sym items) (text_push c.args.body.now c.loop-rest.rest.now c.in-Some.after.now c.loop-rest.entries.items c.in-Some.entry inv.text r.printed);
     }

@@ -2,7 +2,7 @@ use Rattle.std.proofs.Common.{◌≡◌, ◌+◌, ◌++◌, ◌∷◌, ◌∙◌
 use Rattle.std.specs.List.{All}
 use Rattle.std.proofs.lemmas.Grind.{common_steps}
 use Rattle.std.proofs.lemmas.List.Elements.{All-append, All-cons, All-nil}
-use Rattle.git_objects.specs.Decoding.{IsStored}
+use Rattle.git_objects.specs.Decoding.{IsEntryStored}
 use Rattle.git_objects.specs.declared.entries.TreeEntry.{TreeEntry}
 use Rattle.git_objects.proofs.trees.Tree.encode.Goals as goal
 
@@ -13,8 +13,8 @@ loop-entry-preserved c =
     let split : take (i + 1) entries ≡ take i entries ++ c.entry-item.result ∷ [] = grind (arith, common_steps) in
     record {
       text = grind (arith, common_steps);
-      stored = subst (λ (z : List TreeEntry). All IsStored z) (sym split)
-          (All-append IsStored (take i entries) (c.entry-item.result ∷ []) c.loop-entry.invariant.stored (All-cons IsStored c.entry-item.result [] c.in_ok-append_to.ensures.stored (All-nil IsStored)));
+      stored = subst (λ (z : List TreeEntry). All IsEntryStored z) (sym split)
+          (All-append IsEntryStored (take i entries) (c.entry-item.result ∷ []) c.loop-entry.invariant.stored (All-cons IsEntryStored c.entry-item.result [] c.in_ok-append_to.ensures.stored (All-nil IsEntryStored)));
     }
 
 pub returns : goal.returns
@@ -23,7 +23,7 @@ returns c =
     let entries = c.deref-entry-items.result.now in
     let whole : take i entries ≡ entries = grind (arith, common_steps) in
     record {
-      stored = subst (λ (z : List TreeEntry). All IsStored z) (whole ∙ c.deref-entry-items.ensures.value) c.loop-entry.invariant.stored;
+      stored = subst (λ (z : List TreeEntry). All IsEntryStored z) (whole ∙ c.deref-entry-items.ensures.value) c.loop-entry.invariant.stored;
       valid = c.args.self.now.valid;
       text = grind (arith, common_steps);
     }

@@ -1,7 +1,7 @@
 use Rattle.std.proofs.Common.{◌≡◌, ◌++◌, take}
 use Rattle.std.specs.Prelude.{drop}
 use Rattle.std.specs.List.{All}
-use Rattle.git_objects.specs.Decoding.{IsStored}
+use Rattle.git_objects.specs.Decoding.{IsEntryStored}
 use Rattle.git_objects.specs.Entries.{tree_text}
 use Rattle.git_objects.proofs.trees.Tree.encode.Given as goal
 
@@ -9,5 +9,5 @@ use Rattle.git_objects.proofs.trees.Tree.encode.Given as goal
 abbrev pub invariant-loop-entry : goal.invariant-loop-entry
 invariant-loop-entry l = record {
   text : l.body.items ++ tree_text (drop l.entry-index l.entry-items) ≡ tree_text l.self.entries.items;
-  stored : All IsStored (take l.entry-index l.entry-items);
+  stored : All IsEntryStored (take l.entry-index l.entry-items);
 }

@@ -1,5 +1,5 @@
 use Rattle.std.proofs.Common.{ap, sym, ◌∙◌}
-use Rattle.places.specs.Ground.{file_at}
+use Rattle.places.specs.All.{file_at}
 use Rattle.file_store.proofs.Stored.{bytes_of, file_at-ground_of}
 use Rattle.file_store.proofs.memory.contents.Contents.get.Goals as goal
 

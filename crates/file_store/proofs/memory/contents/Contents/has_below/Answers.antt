@@ -1,6 +1,5 @@
 use Rattle.std.proofs.Common.{ap, ◌∙◌}
-use Rattle.places.specs.Names.{is_above}
-use Rattle.places.specs.Ground.{Ground, stands_below}
+use Rattle.places.specs.All.{is_above, Ground, stands_below}
 use Rattle.file_store.specs.Memory.Lists.{ground_of}
 use Rattle.file_store.proofs.Stored.{any-entries, stands_below-any}
 use Rattle.file_store.proofs.memory.contents.Contents.has_below.Goals as goal

@@ -1,6 +1,5 @@
 use Rattle.std.proofs.Common.{ap, ◌||◌, ◌∙◌}
-use Rattle.places.specs.Names.{is_above}
-use Rattle.places.specs.Ground.{Ground, is_shut}
+use Rattle.places.specs.All.{is_above, Ground, is_shut}
 use Rattle.file_store.specs.Memory.Lists.{ground_of}
 use Rattle.file_store.proofs.Stored.{any-entries, is_shut-any}
 use Rattle.file_store.proofs.memory.contents.Contents.is_shut.Goals as goal

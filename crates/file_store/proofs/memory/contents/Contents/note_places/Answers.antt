@@ -1,8 +1,7 @@
 use Rattle.std.proofs.Common.{◌||◌, ◌∙◌, ap}
 use Rattle.std.proofs.lemmas.Result.{on_ok_weaker}
 use Rattle.std.specs.BTreeSet.{contains}
-use Rattle.places.specs.Order.{place_cmp}
-use Rattle.places.specs.Ground.{Ground, stands}
+use Rattle.places.specs.All.{place_cmp, Ground, stands}
 use Rattle.file_store.proofs.Noted.{keys-stands}
 use Rattle.file_store.proofs.memory.contents.Contents.note_places.Goals as goal
 

@@ -1,7 +1,7 @@
 use Rattle.std.proofs.Common.{◌≡◌, ◌++◌, [], rules, sym, ◌∙◌, ap}
 use Rattle.std.specs.Prelude.{unwrap_or}
 use Rattle.std.specs.FinMap.{insert}
-use Rattle.places.specs.Ground.{file_at}
+use Rattle.places.specs.All.{file_at}
 use Rattle.file_store.specs.declared.memory.disk.Call.TheVariants.{Append}
 use Rattle.file_store.proofs.Kept.{after_put, as_one, latest_of, free_here, ground_put}
 use Rattle.file_store.proofs.memory.disk.MemDisk.append.Goals as goal

@@ -1,5 +1,5 @@
 use Rattle.std.proofs.Common.{ap, ◌∙◌}
-use Rattle.places.specs.Ground.{Ground, stands_below}
+use Rattle.places.specs.All.{Ground, stands_below}
 use Rattle.file_store.proofs.Kept.{as_one}
 use Rattle.file_store.proofs.memory.disk.MemDisk.has_below.Goals as goal
 

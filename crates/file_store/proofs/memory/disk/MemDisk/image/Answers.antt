@@ -1,6 +1,6 @@
 use Rattle.std.proofs.Common.{◌&&◌, sym, ◌∙◌, ap, subst}
 use Rattle.std.specs.List.{list_any}
-use Rattle.places.specs.Ground.{stands, is_shut, IsGround}
+use Rattle.places.specs.All.{stands, is_shut, IsGround}
 use Rattle.file_store.specs.Memory.Disk.{history_in, grounded_in}
 use Rattle.file_store.specs.Memory.Calls.{began, history_of}
 use Rattle.file_store.specs.Memory.Moment.{disk_of}

@@ -1,5 +1,5 @@
 use Rattle.std.proofs.Common.{ap, ◌∙◌}
-use Rattle.places.specs.Ground.{Ground, is_shut}
+use Rattle.places.specs.All.{Ground, is_shut}
 use Rattle.file_store.proofs.Kept.{as_one}
 use Rattle.file_store.proofs.memory.disk.MemDisk.is_shut.Goals as goal
 

@@ -1,6 +1,6 @@
 use Rattle.std.proofs.lemmas.Result.{IfOk-weaker}
 use Rattle.std.proofs.Common.{subst}
-use Rattle.places.specs.Ground.{Ground}
+use Rattle.places.specs.All.{Ground}
 use Rattle.file_store.specs.Kinds.{AreListed, IsListing}
 use Rattle.file_store.proofs.Kept.{as_one, latest_of}
 use Rattle.file_store.proofs.memory.disk.MemDisk.list.Goals as goal

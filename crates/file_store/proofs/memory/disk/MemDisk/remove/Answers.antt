@@ -1,6 +1,6 @@
 use Rattle.std.proofs.Common.{◌≡◌, sym, ◌∙◌, ap, subst}
 use Rattle.std.specs.FinMap.{remove}
-use Rattle.places.specs.Ground.{Ground, file_at, IsGround}
+use Rattle.places.specs.All.{Ground, file_at, IsGround}
 use Rattle.places.proofs.Standing.{IsGround-remove}
 use Rattle.file_store.specs.Disk.{History}
 use Rattle.file_store.specs.declared.memory.disk.Call.TheVariants.{Remove}

@@ -1,6 +1,6 @@
 use Rattle.std.proofs.Common.{◌≡◌, Some, rules, ◌∙◌, ap}
 use Rattle.std.specs.FinMap.{remove}
-use Rattle.places.specs.Ground.{file_at}
+use Rattle.places.specs.All.{file_at}
 use Rattle.file_store.proofs.Kept.{after_rename, differ_by, same_by, free_here, ground_rename, moved_same, moved_apart}
 use Rattle.file_store.proofs.memory.disk.MemDisk.rename.Goals as goal
 

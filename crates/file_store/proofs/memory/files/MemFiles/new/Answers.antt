@@ -1,5 +1,5 @@
 use Rattle.std.proofs.Common.{sym, subst}
-use Rattle.places.specs.Ground.{IsGround}
+use Rattle.places.specs.All.{IsGround}
 use Rattle.places.proofs.Standing.{IsGround-empty}
 use Rattle.file_store.proofs.memory.files.MemFiles.new.Goals as goal
 

@@ -1,6 +1,6 @@
 use Rattle.std.proofs.Common.{◌≡◌, Some, rules, sym, ◌∙◌, ap}
 use Rattle.std.specs.FinMap.{insert, remove}
-use Rattle.places.specs.Ground.{Ground, file_at}
+use Rattle.places.specs.All.{Ground, file_at}
 use Rattle.file_store.specs.Memory.Moment.{disk_of}
 use Rattle.file_store.proofs.Images.{renamed-moved}
 use Rattle.file_store.proofs.Noted.{same_disk}

@@ -1,7 +1,6 @@
 use Rattle.std.proofs.Common.{◌||◌, sym, ◌∙◌, ap, List, ℕ}
 use Rattle.std.specs.BTreeSet.{contains}
-use Rattle.places.specs.Names.{Names}
-use Rattle.places.specs.Order.{place_cmp, place_eq}
+use Rattle.places.specs.All.{Names, place_cmp, place_eq}
 use Rattle.file_store.specs.Memory.Moment.{disk_of, tears}
 use Rattle.file_store.proofs.Noted.{contains_more, torn_so}
 use Rattle.file_store.proofs.memory.moment.Moment.tear.Goals as goal

@@ -1,8 +1,7 @@
 use Rattle.std.proofs.Common.{◌||◌, refl, ◌∙◌, ap, List, ℕ}
 use Rattle.std.specs.BTreeSet.{contains}
 use Rattle.std.specs.FinMap.{insert}
-use Rattle.places.specs.Names.{Names}
-use Rattle.places.specs.Order.{place_cmp, place_eq}
+use Rattle.places.specs.All.{Names, place_cmp, place_eq}
 use Rattle.file_store.proofs.Noted.{contains_more, same_disk}
 use Rattle.file_store.proofs.memory.moment.Moment.write.Goals as goal
 

@@ -4,7 +4,7 @@ use Rattle.std.proofs.lemmas.Iterator.{YieldsList-from_slice}
 use Rattle.std.proofs.lemmas.Iterator.Consumers.{YieldsList-from_chain}
 use Rattle.std.proofs.lemmas.Iterator.Search.{cmp_from_yields_List}
 use Rattle.git_objects.specs.Entries.{is_dir, name_end}
-use Rattle.git_objects.proofs.entries.TreeEntry.is_below.Goals as goal
+use Rattle.git_objects.proofs.entries.TreeEntry.sorts_below.Goals as goal
 
 pub returns : goal.returns
 returns c =
