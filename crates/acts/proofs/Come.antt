@@ -1,8 +1,8 @@
 -- How far a call has come.
-use Rattle.std.proofs.Common.{◌≡◌, inl, inr, ℕ, Bool, true, false, ◌||◌, ◌&&◌, List, [], ◌∷◌, ◌++◌, Option, Some, None, refl, sym, ◌∙◌, ap, subst, append_assoc, append-nil, IsTrue}
+use Rattle.std.proofs.Common.{◌≡◌, inl, inr, Bool, ◌||◌, List, [], ◌∷◌, ◌++◌, refl, sym, ◌∙◌, ap, subst, append_assoc, append-nil}
 use Rattle.places.specs.All.{Ground, file_at, Names}
-use Rattle.file_store.specs.All.{Disk, Drive, MayHave, is_open, at_rest, Round, finally}
-use Rattle.file_store.specs.All.{LiesBetween, still, WasOpen, Along, LiesAlong, present}
+use Rattle.file_store.specs.All.{Disk, Drive, Round, finally, LiesBetween, still, LiesAlong}
+use Rattle.file_store.specs.All.{present}
 use Rattle.faults.specs.declared.lines.Line.{Line}
 use Rattle.file_store.proofs.Moments.{last}
 use Rattle.file_store.proofs.Rounds.{finally-append}

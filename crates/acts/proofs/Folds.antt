@@ -1,5 +1,5 @@
 -- The laws of folds.
-use Rattle.std.proofs.Common.{◌≡◌, ℕ, ◌+◌, ◌<◌, ◌≤◌, Bool, true, false, ◌||◌, List, [], ◌∷◌, ◌++◌, length, take, drop, get_or, Result, Ok, Err, refl, sym, ◌∙◌, ap, subst, append_assoc, add-one, drop-cons, ◌&&◌}
+use Rattle.std.proofs.Common.{◌≡◌, ℕ, ◌+◌, ◌<◌, ◌≤◌, Bool, true, false, ◌||◌, List, [], ◌∷◌, ◌++◌, length, take, drop, get_or, Result, Ok, Err, refl, sym, ◌∙◌, ap, subst, append_assoc, append-nil, add-one, drop-cons, ◌&&◌}
 use Rattle.std.proofs.lemmas.List.{take_more, take-append-drop, take_all}
 use Rattle.places.specs.All.{Ground}
 use Rattle.file_store.specs.All.{Drive, finally}
@@ -8,11 +8,12 @@ use Rattle.faults.specs.declared.faults.Trouble.{Trouble}
 use Rattle.faults.specs.declared.faults.Fault.{Fault}
 use Rattle.faults.specs.declared.faults.Trouble.TheVariants.{NoMemory}
 use Rattle.acts.specs.Acts.{Act, Event, Changes, Tells, Step, Ending, Gives, Refuses, Breaks}
-use Rattle.acts.specs.Acts.{is_still, rounds_in, last_of, gives, follow, go_on, bind, fold}
+use Rattle.acts.specs.Acts.{is_still, rounds_in, last_of, gives, says, follow, go_on, bind, fold}
+use Rattle.acts.specs.Acts.{each}
 use Rattle.acts.specs.Ends.{Acts}
 use Rattle.file_store.proofs.Rounds.{finally-append}
 use Rattle.acts.proofs.Come.{rounds_of-append}
-use Rattle.acts.proofs.Laws.{seq, fails, done, starved, same_act}
+use Rattle.acts.proofs.Laws.{seq, fails, done, said, same_lines, starved, same_act}
 
 -- BIND is associative, and sees its second part by its values alone
 or_assoc : (a b c : Bool) → ((a || b) || c) ≡ (a || (b || c))
@@ -124,3 +125,9 @@ module _ {A S : Type 0} (f : S → A → Step S) where
   pub fold_whole : {may : Fault → Type 0} {tells : Bool} (s : S) {t : S} (xs : List A) {i : ℕ} {l0 l1 : List Line} {d0 d1 : Drive}
       → length xs ≤ i → Acts may tells (fold f s (take i xs)) l0 l1 d0 d1 (Ok t) → Acts may tells (fold f s xs) l0 l1 d0 d1 (Ok t)
   fold_whole {may} {tells} s {t} xs {i} {l0} {l1} {d0} {d1} over first = subst (λ (zs : List A). Acts may tells (fold f s zs) l0 l1 d0 d1 (Ok t)) (take_all i xs over) first
+
+-- some lines are said, one after the other
+pub said_each : {may : Fault → Type 0} {tells : Bool} (lines : List Line) {l m : List Line} {d : Drive} → m ≡ l ++ lines → Acts may tells (each says lines) l m d d (Ok tt)
+unfolding fold
+said_each [] {l} is = same_lines (is ∙ append-nil l) done
+said_each (line ∷ lines) {l} is = seq _ (said line refl) (said_each lines (is ∙ sym (append_assoc l (line ∷ []) lines)))

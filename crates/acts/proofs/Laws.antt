@@ -1,9 +1,9 @@
 -- The laws of acts.
-use Rattle.std.proofs.Common.{◌≡◌, ◌≤◌, Bool, true, false, List, [], ◌∷◌, ◌++◌, Option, Some, None, Result, Ok, Err, refl, sym, ◌∙◌, ap, subst, append_assoc, append-nil, arith, IsTrue, ◌⊎◌, inl, inr, ◌||◌, ◌&&◌}
+use Rattle.std.proofs.Common.{◌≡◌, ◌≤◌, Bool, true, false, List, [], ◌∷◌, ◌++◌, Option, Some, None, Result, Ok, Err, refl, sym, ◌∙◌, ap, subst, append_assoc, arith, IsTrue, ◌⊎◌, inl, inr, ◌||◌, ◌&&◌}
 use Rattle.std.specs.Prelude.{IsErrAnd, if◌then◌else◌}
 use Rattle.std.proofs.lemmas.Result.{err_from_is_err_and}
 use Rattle.places.specs.All.{Names, Ground}
-use Rattle.file_store.specs.All.{Rose, Drive, History, at_rest, Round, finally, LiesAlong, present}
+use Rattle.file_store.specs.All.{Rose, Drive, History, at_rest, finally, LiesAlong, present}
 use Rattle.faults.specs.declared.lines.Line.{Line}
 use Rattle.faults.specs.declared.faults.Fault.{Fault}
 use Rattle.faults.specs.declared.faults.Trouble.{Trouble}
@@ -15,7 +15,7 @@ use Rattle.acts.specs.Acts.{Act, Event, Changes, Tells, Step, Ending, Gives, Ref
 use Rattle.acts.specs.Acts.{rounds_of, lines_of, rounds_in, lines_in, last_of, is_still, still}
 use Rattle.acts.specs.Acts.{none_loose, gives, asks, refuses, says, unless, ending_of, follow, cut}
 use Rattle.acts.specs.Acts.{go_on, bind}
-use Rattle.acts.specs.Ends.{IsFirm, Reaches, HasCome, Gave, WasRefused, EndsAs, EndsRefused}
+use Rattle.acts.specs.Ends.{IsFirm, Reaches, HasCome, WasRefused, EndsAs, EndsRefused}
 use Rattle.acts.specs.Ends.{Moments, Goes, HasCause, Acts, ActsQuietly, seen}
 use Rattle.acts.proofs.Along.{firm_left, firm_right, wider_goes, arrives, rests_same, rests_kept, rests_joins}
 use Rattle.acts.proofs.Come.{rounds_of-append, lines_of-append, nothing_more, came_all, begins, came_on, came_first, none_said, quiet_came}

@@ -1,3 +1,4 @@
+pub mod As
 pub mod Along
 pub mod Come
 pub mod Laws

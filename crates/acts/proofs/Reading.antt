@@ -1,9 +1,9 @@
 -- The laws of calls that only read.
-use Rattle.std.proofs.Common.{◌≡◌, ◌≤◌, ℕ, Bool, IsTrue, List, Option, Some, None, Result, Ok, Err, refl, sym, ◌∙◌, ap, subst, arith}
+use Rattle.std.proofs.Common.{◌≡◌, ◌≤◌, Bool, IsTrue, Result, Ok, Err, sym, ◌∙◌, ap, subst, arith}
 use Rattle.std.specs.Prelude.{IsErrAnd}
 use Rattle.std.proofs.lemmas.Result.{err_from_is_err_and}
 use Rattle.places.specs.All.{Ground}
-use Rattle.file_store.specs.All.{Rose, Drive, History, present, ReadFails, trouble_of}
+use Rattle.file_store.specs.All.{Drive, History, present, ReadFails, trouble_of}
 use Rattle.file_store.specs.declared.errors.FileErr.{FileErr}
 use Rattle.file_store.specs.declared.errors.FileErr.TheVariants.{Failed, Blocked as FileBlocked}
 use Rattle.file_store.specs.declared.errors.FileErr.TheVariants.{NoMemory as FileNoMemory}
@@ -11,7 +11,7 @@ use Rattle.faults.specs.declared.faults.Fault.{Fault}
 use Rattle.faults.specs.declared.faults.Trouble.{Trouble}
 use Rattle.faults.specs.declared.faults.Trouble.TheVariants.{Refused, Device, NoMemory}
 use Rattle.acts.specs.Ends.{HasCause}
-use Rattle.acts.specs.Reads.{ReadAs, HasRead, Reads}
+use Rattle.acts.specs.Reads.{ReadAs, Reads}
 
 present_same : (old new : Drive) → new.history ≡ old.history → present new ≡ present old
 present_same old new same = ap (λ (h : History). h.latest.now) same

@@ -14,7 +14,6 @@ use Rattle.file_store.specs.declared.replacing.Replacement.{Replacement}
 use Rattle.file_store.specs.declared.errors.FileErr.TheVariants.{Failed, Blocked as FileBlocked}
 use Rattle.file_store.specs.declared.errors.FileErr.TheVariants.{NoMemory as FileNoMemory}
 use Rattle.faults.specs.declared.faults.Fault.TheVariants.{Blocked}
-use Rattle.faults.specs.declared.faults.Fault.{Fault}
 use Rattle.faults.specs.declared.faults.Trouble.{Trouble}
 use Rattle.file_store.proofs.Course.{goes_as, goes_words, goes_whole}
 use Rattle.file_store.proofs.Rounds.{with_file_same, with_file_other, LeftBy, changed_other}

@@ -1,5 +1,5 @@
 -- Acts: what a call does, by the ground at which it starts.
-use Rattle.std.specs.Prelude.{ℕ, Bool, true, false, ◌||◌, ◌&&◌, List, [], ◌∷◌, ◌++◌, Option, Some}
+use Rattle.std.specs.Prelude.{Bool, true, false, ◌||◌, ◌&&◌, List, [], ◌∷◌, ◌++◌, Option, Some}
 use Rattle.std.specs.Prelude.{None}
 use Rattle.places.specs.All.{Names, Ground}
 use Rattle.file_store.specs.All.{Round, finally}

@@ -1,5 +1,5 @@
 -- How a call ends that acts.
-use Rattle.std.specs.Prelude.{◌≡◌, ℕ, ◌≤◌, Bool, true, false, IsTrue, List, [], ◌++◌, Option}
+use Rattle.std.specs.Prelude.{◌≡◌, ◌⊎◌, ℕ, ◌≤◌, Bool, true, false, IsTrue, List, [], ◌++◌, Option}
 use Rattle.std.specs.Prelude.{Result, Ok, Err}
 use Rattle.places.specs.All.{Names, Ground}
 use Rattle.file_store.specs.All.{Rose, Disk, Drive, MayHave, is_open, at_rest, finally, LiesAlong}
@@ -110,3 +110,27 @@ seen view (Err e) = Err e
 -- No fault.
 abbrev pub NoFault : Fault → Type 0
 NoFault fault = ⊥
+
+-- A result that is for a device that failed, or for want of memory.
+abbrev pub IsHalt : {V : Type 0} → Result V Trouble → Type 0
+IsHalt (Ok v) = ⊥
+IsHalt (Err (Refused fault)) = ⊥
+IsHalt (Err Device) = Unit {0}
+IsHalt (Err NoMemory) = Unit {0}
+
+-- The call was halted before it did or said anything.
+pub record WasHalted {V : Type 0} (before after : List Line) (old new : Drive)
+    (result : Result V Trouble) : Type 0 where
+  pub why : IsHalt result
+  pub said : after ≡ before
+  pub kept : new.history ≡ old.history
+
+-- The same of a call whose act is one that a fact about the ground allows; it may be halted before
+-- it is known which.
+pub record ActsAs {V : Type 0} (may : Fault → Type 0) (tells : Bool)
+    (IsAct : Ground → Act V → Type 0)
+    (before after : List Line) (old new : Drive) (result : Result V Trouble) : Type 0 where
+  pub later : old.faults ≤ new.faults
+  pub cause : HasCause may old new result
+  pub told : IsTrue tells → WasHalted before after old new result
+      ⊎ ((act : Act V) × IsAct (present old) act × Goes act before after old new result)

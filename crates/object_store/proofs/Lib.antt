@@ -1,7 +1,9 @@
 pub mod Found
+pub mod Gets
 pub mod Ids
 pub mod Lists
 pub mod Looks
 pub mod Ours
 pub mod PutActs
 pub mod Staged
+pub mod Within

@@ -16,10 +16,10 @@ use Rattle.acts.specs.All.{gives, ActsQuietly, puts, CanReplace, MayBlock}
 use Rattle.acts.proofs.Laws.{seq, fails, done, handed, starved_early, failed_early, passes_on, stops_on, same_act}
 use Rattle.acts.proofs.Replaces.{replaces, in_trouble}
 use Rattle.repository.proofs.Unfinished.{repo_tmp}
-use Rattle.object_store.specs.Looks.{IsFound, IsFoundAmong, MissingReads, AreFiles, AreMissing}
+use Rattle.object_store.specs.Looks.{IsFoundAmong, MissingReads, AreFiles}
 use Rattle.object_store.specs.Puts.{first_fault, missing, staging}
-use Rattle.object_store.specs.PutActs.{IsTooLong, MayPut, long_fault, early_fault, puts_some}
-use Rattle.object_store.specs.PutActs.{puts_missing, puts_objects}
+use Rattle.object_store.specs.PutActs.{MayPut, long_fault, early_fault, puts_some, puts_missing}
+use Rattle.object_store.specs.PutActs.{puts_objects}
 use Rattle.object_store.specs.declared.objects.NewObject.{NewObject}
 use Rattle.object_store.proofs.Looks.{present-same}
 use Rattle.object_store.proofs.Lists.{length-staging}

@@ -1,5 +1,7 @@
 pub mod All
+pub mod Files
 pub mod Looks
 pub mod Objects
 pub mod PutActs
 pub mod Puts
+pub mod Reads

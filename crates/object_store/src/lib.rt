@@ -4,8 +4,10 @@
 mod looking;
 mod objects;
 mod putting;
+mod reading;
 #[cfg(test)]
 mod tests;
 
 pub use objects::NewObject;
 pub use putting::put_all;
+pub use reading::{get, held_is_read, read_commit, read_tree};

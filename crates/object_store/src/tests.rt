@@ -1,8 +1,8 @@
-// Objects put beside git's own: what stands then, and that each refusal comes.
+// Objects put and read beside git's own: what stands then, what is read, and that each refusal comes.
 use super::*;
 use faults::{Fault, Trouble};
 use file_store::{Bytes, Files, MemFiles, Place};
-use git_objects::ObjKind;
+use git_objects::{Id, ObjKind};
 use std::alloc::Global;
 use std::process::Abort;
 use std::test::Fail;
@@ -147,6 +147,99 @@ fn refusals(rt: HostRuntime) -> Result<(), Fail> {
             assert_eq!(&rt; place.as_str(), HELLO);
         }
         _ => return Err(Fail::from("blocked")),
+    }
+    Ok(())
+}
+
+// `git write-tree` of the file f, which has `hello\n`; then what `git cat-file` says of it
+const TREE: &[u8] = b"10731d0b170b98481a00bdca161e874e0ab93377";
+
+const TREE_PLACE: &str = "/r/.dlrepo/objects/10/731d0b170b98481a00bdca161e874e0ab93377";
+
+const TREE_TEXT: &[u8] =
+    b"tree 29\0100644 f\0\xce\x01\x36\x25\x03\x0b\xa8\xdb\xa9\x06\xf7\x56\x96\x7f\x9e\x9c\xa3\x94\x46\x4a";
+
+// `git commit-tree` of that tree
+const COMMIT: &[u8] = b"b11f2218fb4a9a7582b36d9e0485ff6eb92c170b";
+
+const COMMIT_PLACE: &str = "/r/.dlrepo/objects/b1/1f2218fb4a9a7582b36d9e0485ff6eb92c170b";
+
+const COMMIT_TEXT: &[u8] =
+    b"commit 116\0tree 10731d0b170b98481a00bdca161e874e0ab93377\nauthor A <a@b> 1700000000 +0000\ncommitter A <a@b> 1700000000 +0000\n\nm\n";
+
+// `printf 'x' | git hash-object -t tree --literally --stdin`
+const NO_ENTRY: &[u8] = b"f42941c78e101ff62b3e2f6e468c3e310f703259";
+
+const NO_ENTRY_PLACE: &str = "/r/.dlrepo/objects/f4/2941c78e101ff62b3e2f6e468c3e310f703259";
+
+fn id(rt: &impl Abort, hex: &[u8]) -> Id {
+    Id::from_hex(hex).expect(rt, "an id")
+}
+
+#[test]
+fn trees_are_read(rt: HostRuntime) -> Result<(), Fail> {
+    let alloc = rt.alloc();
+    let repo = place(&rt, alloc, "/r/.dlrepo");
+    let mut files = files_with(&rt, alloc, TREE_PLACE, TREE_TEXT)?;
+    let tree = read_tree(alloc, &mut files, &repo, &id(&rt, TREE)).expect(&rt, "a tree");
+    assert_eq!(&rt; tree.entries.len(), 1);
+    assert!(&rt; tree.entries[0].name.as_str() == "f");
+
+    // a tree is no commit, and nothing is held under the blob's id
+    assert!(&rt; is_missing(read_commit(alloc, &mut files, &repo, &id(&rt, TREE)), TREE));
+    let found = get(
+        alloc,
+        &mut files,
+        &repo,
+        &id(&rt, b"ce013625030ba8dba906f756967f9e9ca394464a"),
+    );
+    assert!(&rt; matches!(found, Ok(None)));
+    Ok(())
+}
+
+fn is_missing<T: Drop>(read: Result<T, Trouble>, hex: &[u8]) -> bool {
+    match read {
+        Err(Trouble::Refused(Fault::Missing { id })) => Id(id).to_hex().as_slice() == hex,
+        _ => false,
+    }
+}
+
+#[test]
+fn commits_are_read(rt: HostRuntime) -> Result<(), Fail> {
+    let alloc = rt.alloc();
+    let repo = place(&rt, alloc, "/r/.dlrepo");
+    let mut files = files_with(&rt, alloc, COMMIT_PLACE, COMMIT_TEXT)?;
+    let commit = read_commit(alloc, &mut files, &repo, &id(&rt, COMMIT)).expect(&rt, "a commit");
+    assert!(&rt; commit.tree == id(&rt, TREE));
+    assert_eq!(&rt; commit.message.as_slice(), b"m\n".as_slice());
+    assert!(&rt;
+        is_missing(
+            read_tree(alloc, &mut files, &repo, &id(&rt, COMMIT)),
+            COMMIT
+        )
+    );
+    Ok(())
+}
+
+#[test]
+fn damage_is_told(rt: HostRuntime) -> Result<(), Fail> {
+    let alloc = rt.alloc();
+    let repo = place(&rt, alloc, "/r/.dlrepo");
+
+    // the text of another object
+    let mut files = files_with(&rt, alloc, TREE_PLACE, COMMIT_TEXT)?;
+    match get(alloc, &mut files, &repo, &id(&rt, TREE)) {
+        Err(Trouble::Refused(Fault::Damaged { place })) => {
+            assert_eq!(&rt; place.as_str(), TREE_PLACE);
+        }
+        _ => return Err(Fail::from("damaged")),
+    }
+
+    // an object of that id, whose body is no tree's
+    let mut files = files_with(&rt, alloc, NO_ENTRY_PLACE, b"tree 1\0x")?;
+    match read_tree(alloc, &mut files, &repo, &id(&rt, NO_ENTRY)) {
+        Err(Trouble::Refused(Fault::BadTree { at, .. })) => assert_eq!(&rt; at, 0),
+        _ => return Err(Fail::from("a bad tree")),
     }
     Ok(())
 }

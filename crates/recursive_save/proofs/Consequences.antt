@@ -7,8 +7,7 @@ use Rattle.places.specs.All.{Names, IsAbove, has_name, Ground, file_at}
 use Rattle.places.proofs.Grounds.{cases_place}
 use Rattle.places.proofs.Above.{is_above-complete}
 use Rattle.places.proofs.Texts.{or_neither}
-use Rattle.file_store.specs.All.{Drive, Since, IsImage, present, Round, changed, finally, WasOpen}
-use Rattle.file_store.specs.All.{IsBetween, IsAlong}
+use Rattle.file_store.specs.All.{present, Round, changed, finally, WasOpen, IsBetween, IsAlong}
 use Rattle.faults.specs.declared.faults.Fault.{Fault}
 use Rattle.file_store.proofs.Moments.{weaken}
 use Rattle.file_store.proofs.Course.{SameRounds, Along-map}
@@ -18,8 +17,8 @@ use Rattle.git_objects.specs.All.{oid, hex_of}
 use Rattle.git_objects.specs.declared.ids.Id.{Id}
 use Rattle.repository.specs.All.{is_tmp, is_below_tmp, IsOutside, object_place, dlrepo, repo_of}
 use Rattle.repository.specs.All.{config_place, settings_place, main_place, head_place}
-use Rattle.acts.specs.All.{Act, Refuses, still, none_loose, rounds_in, last_of, IsFirm, Moments}
-use Rattle.acts.specs.All.{Nothing, OldOrNew, NewWithAll}
+use Rattle.acts.specs.All.{Act, Refuses, still, none_loose, rounds_in, last_of, IsFirm, Nothing}
+use Rattle.acts.specs.All.{OldOrNew, NewWithAll}
 use Rattle.object_store.specs.All.{place_in, objects_round}
 use Rattle.object_store.specs.declared.objects.NewObject.{NewObject}
 use Rattle.recursive_save.specs.First.{new_dataset, Parts, dataset_rounds, new_parts, head_text}
@@ -144,7 +143,7 @@ head_firm : (root : Names) → has_name dlrepo root ≡ false → IsFirm none_lo
 head_firm root none = record { outside = ap is_tmp (head_is root) ∙ not_tmp root none; firm = refl }
 
 -- the same rounds at fewer places
-same_fewer : (F G : Names → Type 0) → ((q : Names) → G q → F q) → (g h : Ground) (rs ss : List Round) → SameRounds F g rs h ss → SameRounds G g rs h ss
+pub same_fewer : (F G : Names → Type 0) → ((q : Names) → G q → F q) → (g h : Ground) (rs ss : List Round) → SameRounds F g rs h ss → SameRounds G g rs h ss
 same_fewer F G fewer g h [] ss same = tt
 same_fewer F G fewer g h (a ∷ rs) [] same = absurd same
 same_fewer F G fewer g h (a ∷ rs) (b ∷ ss) same = ((λ q at. same.0 q (fewer q at)), same_fewer F G fewer (changed a g) (changed b h) rs ss same.1)

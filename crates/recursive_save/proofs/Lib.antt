@@ -7,4 +7,7 @@ pub mod Written
 pub mod Made
 pub mod Consequences
 pub mod Ours
+pub mod NewSettings
+pub mod FirstCommit
+pub mod KeepsSound
 pub mod Done

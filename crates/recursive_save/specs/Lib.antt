@@ -4,3 +4,4 @@ pub mod First
 pub mod Laws
 pub mod Plans
 pub mod Remains
+pub mod Soundness

@@ -1,5 +1,9 @@
 // What follows of the making of a dataset: laws of its definition.
 ghost use Rattle.recursive_save.specs.Laws.{CreateRefuses, CreateMakes, CreateKeeps};
+ghost use Rattle.recursive_save.specs.Soundness.{CreateKeepsSound};
+
+use config_text::{Remote, Section, config_is_read};
+use std::alloc::Global;
 
 /// Where a fault refuses it, nothing is done.
 pub fn create_refuses()
@@ -15,3 +19,13 @@ pub fn create_makes()
 pub fn create_remains()
     ensures { CreateKeeps }
 {}
+
+/// On a sound ground and a settled disk: sound at every moment, and in what a crash leaves. It makes
+/// two empty lists because the law of configurations that are read is over lists in memory.
+pub fn create_keeps_sound(alloc: Global)
+    ensures { CreateKeepsSound }
+{
+    let _remotes: Vec<Remote> = Vec::new(alloc);
+    let _rest: Vec<Section> = Vec::new(alloc);
+    config_is_read();
+}

@@ -6,4 +6,4 @@ mod first;
 mod laws;
 
 pub use creating::create;
-pub use laws::{create_makes, create_refuses, create_remains};
+pub use laws::{create_keeps_sound, create_makes, create_refuses, create_remains};

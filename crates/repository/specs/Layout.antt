@@ -1,6 +1,7 @@
 -- Where the files of a dataset and of its repository stand.
-use Rattle.std.specs.Prelude.{ℕ, Bool, List, [], ◌∷◌, ◌++◌, take, drop, codes, decimal}
-use Rattle.places.specs.All.{Names, is_above}
+use Rattle.std.specs.Prelude.{ℕ, Bool, List, [], ◌∷◌, ◌++◌, Option, Some, None, take, drop, codes}
+use Rattle.std.specs.Prelude.{decimal}
+use Rattle.places.specs.All.{Names, pieces, is_above}
 use Rattle.git_objects.specs.All.{hex_of}
 
 -- The name of a repository's directory.
@@ -19,13 +20,26 @@ config_place root = root ++ codes ".datalad" ∷ codes "config" ∷ []
 abbrev pub settings_place : Names → Names
 settings_place root = repo_of root ++ codes "config" ∷ []
 
--- `.dlrepo/refs/heads/main`.
-abbrev pub main_place : Names → Names
-main_place root = repo_of root ++ codes "refs" ∷ codes "heads" ∷ codes "main" ∷ []
+-- `HEAD` of a repository.
+abbrev pub repo_head : Names → Names
+repo_head repo = repo ++ codes "HEAD" ∷ []
 
 -- `.dlrepo/HEAD`.
 abbrev pub head_place : Names → Names
-head_place root = repo_of root ++ codes "HEAD" ∷ []
+head_place root = repo_head (repo_of root)
+
+-- `refs/heads/NAME` of a repository, the name's parts between slashes.
+abbrev pub branch_place : Names → List ℕ → Names
+branch_place repo name = repo ++ codes "refs" ∷ codes "heads" ∷ pieces name
+
+-- `.dlrepo/refs/heads/main`.
+abbrev pub main_place : Names → Names
+main_place root = branch_place (repo_of root) (codes "main")
+
+-- The file of the tip: the branch's, or HEAD where no branch is named.
+abbrev pub tip_place : Names → Option (List ℕ) → Names
+tip_place repo None = repo_head repo
+tip_place repo (Some name) = branch_place repo name
 
 -- `objects/aa/REST` for the 40 digits of an id.
 abbrev pub object_names : List ℕ → Names

@@ -1,4 +1,4 @@
--- How long the text of a repository's place may be.
+-- How long the text of a repository's place may be, and how large an object that is read.
 use Rattle.std.specs.Prelude.{ℕ, length, Option, Some}
 use Rattle.places.specs.All.{Names, text_of}
 use Rattle.faults.specs.declared.faults.Fault.{Fault}
@@ -11,6 +11,14 @@ repo_limit = 3584
 -- The longest one below which an object has a place.
 abbrev pub object_limit : ℕ
 object_limit = 4046
+
+-- The most bytes of the body of an object that is read.
+abbrev pub object_body_limit : ℕ
+object_body_limit = 67108864
+
+-- The most bytes of an object's file that is read: such a body behind its longest header.
+abbrev pub object_file_limit : ℕ
+object_file_limit = 67108880
 
 -- The refusal of a repository whose place is too long.
 abbrev pub large : Names → Option Fault

@@ -10,7 +10,9 @@ pub use layout::{
     config_place, head_place, main_place, object_place, repo_place, repo_place_text,
     settings_place, tmp_place,
 };
-pub use limits::{OBJECT_LIMIT, REPO_LIMIT, repo_too_large, too_large};
+pub use limits::{
+    OBJECT_BODY_LIMIT, OBJECT_FILE_LIMIT, OBJECT_LIMIT, REPO_LIMIT, repo_too_large, too_large,
+};
 
 #[cfg(test)]
 mod tests;

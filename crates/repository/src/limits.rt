@@ -1,4 +1,4 @@
-// How long the text of a repository's place may be.
+// How long the text of a repository's place may be, and how large an object that is read.
 ghost use Rattle.std.specs.Prelude.{◌≡◌, length, string_bytes, IfOk};
 ghost use Rattle.places.specs.All.{text_of};
 ghost use Rattle.faults.specs.declared.faults.Fault.TheVariants.{TooLarge};
@@ -12,6 +12,12 @@ pub const REPO_LIMIT: usize = 3584;
 
 /// The longest one below which an object has a place.
 pub const OBJECT_LIMIT: usize = 4046;
+
+/// The most bytes of the body of an object that is read.
+pub const OBJECT_BODY_LIMIT: usize = 67_108_864;
+
+/// The most bytes of an object's file that is read: such a body behind its longest header.
+pub const OBJECT_FILE_LIMIT: u64 = 67_108_880;
 
 /// The refusal of a repository whose place has this text, too long to write in.
 pub fn too_large(text: String) -> Fault

@@ -4,7 +4,6 @@ use Rattle.std.specs.declared.alloc.Global.{Global}
 use Rattle.places.specs.All.{Names, file_at}
 use Rattle.file_store.specs.All.{present}
 use Rattle.file_store.specs.declared.replacing.Replacement.{Replacement}
-use Rattle.faults.specs.declared.faults.Fault.{Fault}
 use Rattle.repository.specs.All.{object_place}
 use Rattle.object_store.specs.Objects.{place_in}
 use Rattle.object_store.specs.Looks.{HaveIds}

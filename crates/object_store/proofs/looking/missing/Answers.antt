@@ -2,7 +2,7 @@ use Rattle.std.proofs.Common.{◌≡◌, ◌+◌, ◌++◌, ◌∷◌, ◌∙◌
 use Rattle.std.proofs.lemmas.Grind.{common_steps}
 use Rattle.std.proofs.lemmas.List.{take-append-drop}
 use Rattle.acts.proofs.Reading.{read_exits}
-use Rattle.object_store.specs.Looks.{MissingReads, AreFiles}
+use Rattle.object_store.specs.Looks.{MissingReads}
 use Rattle.object_store.proofs.Looks.{look_more, look_fails, files_more}
 use Rattle.object_store.specs.declared.objects.NewObject.{NewObject}
 use Rattle.object_store.proofs.looking.missing.Goals as goal

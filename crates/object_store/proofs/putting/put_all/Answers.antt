@@ -1,11 +1,10 @@
-use Rattle.std.proofs.Common.{◌≡◌, ◌≤◌, ◌<◌, ◌==◌, ◌^◌, ◌∙◌, Bool, List, length, Vec, Ok, Err, true, false, refl, sym, ap, subst, arith, rules}
+use Rattle.std.proofs.Common.{◌≡◌, ◌≤◌, ◌<◌, ◌==◌, ◌^◌, ◌∙◌, List, length, Vec, Ok, Err, true, false, refl, sym, ap, subst, arith, rules}
 use Rattle.std.specs.declared.alloc.Global.{Global}
 use Rattle.places.specs.All.{text_of, Names}
-use Rattle.file_store.specs.All.{Drive, AreApart}
+use Rattle.file_store.specs.All.{AreApart}
 use Rattle.file_store.specs.declared.replacing.Replacement.{Replacement}
 use Rattle.acts.proofs.Laws.{exits, starved, starved_early}
 use Rattle.object_store.specs.Looks.{AreFiles}
-use Rattle.object_store.specs.declared.objects.NewObject.{NewObject}
 use Rattle.object_store.proofs.Lists.{length-staging}
 use Rattle.object_store.proofs.Staged.{staging_apart}
 use Rattle.object_store.proofs.PutActs.{put_none, put_large, put_looks, put_held, put_long, put_files}

@@ -1,0 +1,17 @@
+pub mod Birth
+pub mod Commits
+pub mod Heading
+pub mod Ids
+pub mod Leading
+pub mod Moments
+pub mod Parents
+pub mod Putting
+pub mod Refs
+pub mod Rows
+pub mod Saving
+pub mod Setting
+pub mod Splits
+pub mod Steps
+pub mod Walks
+pub mod Watching
+pub mod Wholes

@@ -1,0 +1,12 @@
+pub mod All
+pub mod Births
+pub mod Laws
+pub mod Leads
+pub mod Moments
+pub mod Refs
+pub mod Rounds
+pub mod Saves
+pub mod Sound
+pub mod Steps
+pub mod Watched
+pub mod Whole

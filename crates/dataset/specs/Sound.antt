@@ -1,0 +1,72 @@
+-- Which grounds are sound.
+use Rattle.std.specs.Prelude.{◌≡◌, ℕ, true, false, List, ◌++◌, Some, None, IsSome, Ok}
+use Rattle.places.specs.All.{Names, Ground, file_at, stands}
+use Rattle.git_objects.specs.All.{Fields, IsId, Object}
+use Rattle.config_text.specs.All.{PlainConfig, config_in}
+use Rattle.repository.specs.All.{Head, head_of, id_in, is_branch, held_at, repo_of, head_place}
+use Rattle.repository.specs.All.{settings_place, object_place, branch_place, tmp_names, is_tmp}
+use Rattle.object_store.specs.All.{IsCommitAt}
+use Rattle.dataset.specs.Watched.{IsRoot}
+use Rattle.dataset.specs.Whole.{IsWhole, AreWhole}
+
+-- A dataset's HEAD stands, and is no unfinished write.
+pub record IsDataset (root : Names) (g : Ground) : Type 0 where
+  pub head : stands g (head_place root) ≡ true
+  pub outside : is_tmp (head_place root) ≡ false
+
+-- A file at the place of an id is an object of that id, and the parents of each commit are whole.
+pub record HasSoundObjects (repo : Names) (g : Ground) : Type 0 where
+  pub named : (id : List ℕ) → IsId id → stands g (object_place repo id) ≡ true
+      → IsSome (held_at g repo id)
+  pub parents : (id : List ℕ) (fields : Fields) → IsCommitAt repo id g fields
+      → AreWhole repo fields.parents g
+
+-- HEAD is in form, and so is each branch; they lead to whole commits.
+pub record HasSoundHeads (repo : Names) (g : Ground) : Type 0 where
+  pub head : Head
+  pub leads : head_of g repo ≡ Some head
+  pub whole : IsWhole repo head.id g
+  pub branches : (name text : List ℕ) → is_branch name ≡ true
+      → file_at g (branch_place repo name) ≡ Some text
+      → (id : List ℕ) × (id_in text ≡ Some id) × IsWhole repo id g
+
+-- The text of a configuration.
+abbrev pub IsConfiguration : List ℕ → Type 0
+IsConfiguration text = (config : PlainConfig) × (config_in text ≡ Ok config)
+
+-- The dataset's configuration stands, in form.
+pub record HasSoundSettings (root : Names) (g : Ground) : Type 0 where
+  pub text : List ℕ
+  pub stands : file_at g (settings_place root) ≡ Some text
+  pub valid : IsConfiguration text
+
+-- No file stands at `tmp`, the directory of unfinished writes.
+abbrev pub HasSoundTmp : Names → Ground → Type 0
+HasSoundTmp repo g = file_at g (repo ++ tmp_names) ≡ None
+
+-- What a sound ground has of a dataset whose files are all kept in git: its objects, its heads, its
+-- configuration, room for unfinished writes; and it isn't in a repository.
+pub record IsSoundAt (root : Names) (g : Ground) : Type 0 where
+  pub objects : HasSoundObjects (repo_of root) g
+  pub heads : HasSoundHeads (repo_of root) g
+  pub settings : HasSoundSettings root g
+  pub tmp : HasSoundTmp (repo_of root) g
+  pub outside : IsRoot root
+
+-- Each dataset is sound.
+abbrev pub Sound : Ground → Type 0
+Sound g = (root : Names) → IsDataset root g → IsSoundAt root g
+
+-- What one repository holds in the first ground it holds in the second.
+abbrev pub HoldsAllIn : Names → Ground → Ground → Type 0
+HoldsAllIn repo a b =
+    (id : List ℕ) (o : Object) → held_at a repo id ≡ Some o → held_at b repo id ≡ Some o
+
+-- Nothing that is held in the first ground is lost in the second.
+abbrev pub HoldsAll : Ground → Ground → Type 0
+HoldsAll a b = (root : Names) → IsRoot root → HoldsAllIn (repo_of root) a b
+
+-- Each dataset has the same head in both grounds.
+abbrev pub SameHeads : Ground → Ground → Type 0
+SameHeads a b =
+    (root : Names) → IsRoot root → head_of a (repo_of root) ≡ head_of b (repo_of root)

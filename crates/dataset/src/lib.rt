@@ -1,0 +1,4 @@
+//! Datasets: which grounds are sound, and what keeps them so.
+#![tactic(auto)]
+
+mod laws;

@@ -1,0 +1,58 @@
+use Rattle.std.proofs.Common.{rules, ◌≡◌, ◌<◌, ◌≤◌, length, Ok, Err}
+use Rattle.places.specs.All.{text_of}
+use Rattle.acts.proofs.Laws.{exits, starved}
+use Rattle.repository.specs.All.{id_text}
+use Rattle.ref_store.specs.Forms.{branch_of}
+use Rattle.ref_store.proofs.Sets.{tip_apart, tip_unread, tip_starved, tip_long, tip_put}
+use Rattle.ref_store.proofs.setting.set_tip.Goals as goal
+
+pub replace-requires : goal.replace-requires
+replace-requires g c = tip_apart c.args.repo.now c.in_ok-tmp.tmp c.in_ok-place.place (branch_of c.in_ok-head.head) c.in_ok-tmp.ensures c.in_ok-place.ensures
+
+pub returns-in_err-text : goal.returns-in_err-text
+returns-in_err-text g c = λ is. exits c.from_residual.ensures.1 starved
+
+pub returns-in_err-head : goal.returns-in_err-head
+returns-in_err-head g c = λ is.
+    let drive = g.F.Files.drive in
+    exits c.from_residual-in_err-head.ensures.1 (tip_unread g.F.Files.tells c.args.repo.now c.args.id.now.0 (drive c.args.files.now) (drive c.read_head.new.files) c.in_err-head.field-0.0 c.in_err-head.ensures.reads)
+
+pub returns-in_err-repo_too_large : goal.returns-in_err-repo_too_large
+returns-in_err-repo_too_large g c = λ is.
+    let drive = g.F.Files.drive in
+    exits c.from_residual-in_err-repo_too_large.ensures.1 (tip_starved g.F.Files.tells c.args.repo.now c.args.id.now.0 (drive c.args.files.now) (drive c.read_head.new.files) c.in_ok-head.head c.in_ok-head.ensures.reads)
+
+pub returns-then-as_str-gt-REPO_LIMIT : goal.returns-then-as_str-gt-REPO_LIMIT
+returns-then-as_str-gt-REPO_LIMIT g c = λ is.
+    let drive = g.F.Files.drive in
+    let long : 3584 < length (text_of c.args.repo.now) = search rules in
+    tip_long g.F.Files.tells c.args.repo.now c.args.id.now.0 (drive c.args.files.now) (drive c.read_head.new.files) c.in_ok-head.head c.in_ok-head.ensures.reads c.in_ok-repo_too_large.field-0 long c.in_ok-repo_too_large.ensures
+
+pub returns-in_err-tmp : goal.returns-in_err-tmp
+returns-in_err-tmp g c = λ is.
+    let drive = g.F.Files.drive in
+    exits c.from_residual-in_err-tmp.ensures.1 (tip_starved g.F.Files.tells c.args.repo.now c.args.id.now.0 (drive c.args.files.now) (drive c.read_head.new.files) c.in_ok-head.head c.in_ok-head.ensures.reads)
+
+pub returns-in_err-place : goal.returns-in_err-place
+returns-in_err-place g c = λ is.
+    let drive = g.F.Files.drive in
+    exits c.from_residual-in_err-place.ensures.1 (tip_starved g.F.Files.tells c.args.repo.now c.args.id.now.0 (drive c.args.files.now) (drive c.read_head.new.files) c.in_ok-head.head c.in_ok-head.ensures.reads)
+
+pub returns-in_err-replace : goal.returns-in_err-replace
+returns-in_err-replace g c = λ is.
+    let drive = g.F.Files.drive in
+    let fits : length (text_of c.args.repo.now) ≤ 3584 = search rules in
+    let text : c.as_slice.result.now ≡ id_text c.args.id.now.0 = search rules in
+    exits c.from_residual-in_err-replace.ensures.1
+    (tip_put g.F.Files.tells c.args.repo.now c.args.id.now.0 (drive c.args.files.now) (drive c.read_head.new.files) c.in_ok-head.head c.in_ok-head.ensures.reads is fits
+    c.in_ok-tmp.tmp c.in_ok-place.place c.as_slice.result.now c.in_ok-tmp.ensures c.in_ok-place.ensures text
+    (drive c.replace.new.files) (Err c.in_err-replace.field-0.0) c.replace.ensures.later c.in_err-replace.ensures.ends c.replace.ensures.crash)
+
+pub returns : goal.returns
+returns g c = λ is.
+    let drive = g.F.Files.drive in
+    let fits : length (text_of c.args.repo.now) ≤ 3584 = search rules in
+    let text : c.as_slice.result.now ≡ id_text c.args.id.now.0 = search rules in
+    tip_put g.F.Files.tells c.args.repo.now c.args.id.now.0 (drive c.args.files.now) (drive c.read_head.new.files) c.in_ok-head.head c.in_ok-head.ensures.reads is fits
+    c.in_ok-tmp.tmp c.in_ok-place.place c.as_slice.result.now c.in_ok-tmp.ensures c.in_ok-place.ensures text
+    (drive c.replace.new.files) (Ok tt) c.replace.ensures.later c.in_ok-replace.ensures.ends c.replace.ensures.crash

@@ -1,0 +1,97 @@
+-- One call after another that reads a tree.
+use Rattle.std.proofs.Common.{◌≡◌, ℕ, ◌≤◌, ◌<◌, ◌+◌, Bool, true, IsTrue, inl, inr, List, [], ◌∷◌, ◌++◌, length, None, Result, Ok, Err, refl, sym, ap, subst, ◌∙◌, arith}
+use Rattle.places.specs.All.{Names, longest, Ground}
+use Rattle.file_store.specs.All.{Drive, History, present}
+use Rattle.faults.specs.declared.faults.Fault.{Fault}
+use Rattle.faults.specs.declared.faults.Trouble.{Trouble}
+use Rattle.faults.specs.declared.faults.Fault.TheVariants.{TooLarge}
+use Rattle.faults.specs.declared.faults.Trouble.TheVariants.{Refused, Device, NoMemory}
+use Rattle.git_objects.specs.All.{is_dir}
+use Rattle.git_objects.specs.declared.entries.TreeEntry.{TreeEntry}
+use Rattle.git_objects.specs.declared.trees.Tree.{Tree}
+use Rattle.acts.specs.All.{Reads}
+use Rattle.acts.proofs.Reading.{read_gives, read_refuses, read_starves, read_err, read_after}
+use Rattle.object_store.specs.All.{get_fault, IsTreeAt, HasTree, IsTreeFault, MayReadTree}
+use Rattle.snapshot.specs.Leaves.{mode_of, id_of}
+use Rattle.snapshot.specs.Dirs.{inside}
+use Rattle.snapshot.specs.Flattens.{item_limit, told_path, too_many, GoesOn, IsReadFault, here}
+use Rattle.snapshot.specs.Walks.{MayWalk, EntryReads, DirReads}
+use Rattle.snapshot.specs.declared.entries.Leaf.{Leaf}
+use Rattle.snapshot.specs.declared.entries.Entry.{Entry}
+use Rattle.snapshot.proofs.Flat.{goes_none, leaf_goes, dir_goes, goes_more, goes_whole, entry_fault}
+
+present_same : (old new : Drive) → new.history ≡ old.history → present new ≡ present old
+present_same old new same = ap (λ (h : History). h.latest.now) same
+
+-- what follows from a call's answer, or its refusal
+pub read_weaker : {A : Type 0} {may : Fault → Type 0} {tells : Bool} {IsAnswer IsOther : Ground → A → Type 0} {IsRefusal IsMore : Ground → Fault → Type 0} {old new : Drive} (r : Result A Trouble)
+    → ((answer : A) → IsAnswer (present old) answer → IsOther (present old) answer) → ((fault : Fault) → IsRefusal (present old) fault → IsMore (present old) fault)
+    → Reads may tells IsAnswer IsRefusal old new r → Reads may tells IsOther IsMore old new r
+read_weaker (Ok answer) f h reads = read_gives reads.later (λ t. ((reads.told t).same, f answer (reads.told t).answer))
+read_weaker (Err (Refused fault)) f h reads = read_refuses reads.cause reads.later (λ t. ((reads.told t).same, h fault (reads.told t).answer))
+read_weaker (Err Device) f h reads = record { later = reads.later; cause = reads.cause; told = λ t. record { same = (reads.told t).same; answer = tt } }
+read_weaker (Err NoMemory) f h reads = read_starves reads.later (λ t. (reads.told t).same)
+
+-- ---- one entry
+module _ (tells : Bool) (repo : Names) (path : List ℕ) (e : TreeEntry) (list after : List Entry) (n m : ℕ) (old new : Drive) where
+  abbrev pub Entries : Result (Unit {0}) Trouble → Type 0
+  Entries r = EntryReads tells repo path e list after n m old new r
+
+  pub entry_many : (fault : Fault) → old.faults ≤ new.faults → n ≡ item_limit → fault ≡ too_many → (IsTrue tells → new.history ≡ old.history) → Entries (Err (Refused fault))
+  entry_many fault up full is same = read_refuses (subst (λ (z : Fault). MayWalk repo z) (sym is) (inr (inr (refl, refl)))) up (λ t. (same t, inl (full, is)))
+
+  pub entry_long : (fault : Fault) (size : ℕ) → old.faults ≤ new.faults → n < item_limit → longest < size → size ≡ length (path ++ e.name) → fault ≡ TooLarge (told_path path) size → (IsTrue tells → new.history ≡ old.history) → Entries (Err (Refused fault))
+  entry_long fault size up room large long is same =
+      read_refuses (subst (λ (z : Fault). MayWalk repo z) (sym is) (inr (inl large))) up (λ t. (same t, inr (inl (room, subst (λ (z : ℕ). longest < z) long large, is ∙ ap (λ (z : ℕ). TooLarge (told_path path) z) long))))
+
+  pub entry_dir : (r : Result (Unit {0}) Trouble) → n < item_limit → length (path ++ e.name) ≤ longest → is_dir e.mode ≡ true → DirReads tells repo (inside path e.name) e.id.0 list after (n + 1) m old new r → Entries r
+  entry_dir r room short is reads = read_weaker r (λ _ sub. dir_goes repo path (present old) e list after n m is short sub) (λ fault h. inr (inr (room, short, is, h))) reads
+
+pub entry_leaf : (tells : Bool) (repo : Names) (path : List ℕ) (e : TreeEntry) (leaf : Leaf) (list after : List Entry) (n : ℕ) (d : Drive) → mode_of leaf ≡ e.mode → id_of leaf ≡ e.id → length (path ++ e.name) ≤ longest
+    → after ≡ list ++ record { path = path ++ e.name; leaf = leaf } ∷ [] → EntryReads tells repo path e list after n (n + 1) d d (Ok tt)
+entry_leaf tells repo path e leaf list after n d mode id short more = read_gives (omega arith) (λ t. (refl, leaf_goes repo path (present d) e leaf list after n mode id short more))
+
+-- ---- the entries of a tree, one after the other
+module _ (tells : Bool) (repo : Names) (path id : List ℕ) (list : List Entry) (n : ℕ) (old : Drive) where
+  -- the first entries were read
+  abbrev pub WereRead : List TreeEntry → List Entry → ℕ → Drive → Type 0
+  WereRead entries after m new = Reads (λ fault. MayWalk repo fault) tells (λ g _. GoesOn repo path entries list after n m g) (λ g fault. IsReadFault repo g n path id fault) old new (Ok (tt {0}))
+
+  -- its tree was read
+  abbrev pub HasRead : List TreeEntry → Type 0
+  HasRead entries = IsTrue tells → (get_fault repo id (present old) ≡ None) × IsTreeAt repo id (present old) entries
+
+  pub tree_fails : (new : Drive) (after : List Entry) (m : ℕ) (t : Trouble) → Reads (λ fault. MayReadTree repo id fault) tells (λ g tree. HasTree repo id g tree) (λ g fault. IsTreeFault repo id g fault) old new (Err t)
+      → DirReads tells repo path id list after n m old new (Err t)
+  tree_fails new after m t reads = read_err (λ fault h. inl (id, h)) (λ fault h. here h) reads
+
+  pub walk_starts : (new : Drive) (tree : Tree) → Reads (λ fault. MayReadTree repo id fault) tells (λ g tree. HasTree repo id g tree) (λ g fault. IsTreeFault repo id g fault) old new (Ok tree) → WereRead [] list n new
+  walk_starts new tree reads = read_gives reads.later (λ t. ((reads.told t).same, goes_none repo path (present old) list n))
+
+  module _ (entries : List TreeEntry) (mid : List Entry) (k : ℕ) (before new : Drive) (so_far : WereRead entries mid k before) where
+    pub walk_more : (e : TreeEntry) (after : List Entry) (m : ℕ) → EntryReads tells repo path e mid after k m before new (Ok tt) → WereRead (entries ++ e ∷ []) after m new
+    walk_more e after m reads =
+        let late = read_after so_far.later (λ t. (so_far.told t).same) reads in
+        read_gives late.later (λ t. ((late.told t).same, goes_more repo path (present old) entries (e ∷ []) list mid after n k m (so_far.told t).answer (late.told t).answer))
+
+    pub walk_fails : (e : TreeEntry) (rest : List TreeEntry) (after : List Entry) (m : ℕ) (t : Trouble) → HasRead (entries ++ e ∷ rest) → EntryReads tells repo path e mid after k m before new (Err t)
+        → DirReads tells repo path id list after n m old new (Err t)
+    walk_fails e rest after m (Refused fault) tree reads =
+        let late = read_after so_far.later (λ t. (so_far.told t).same) reads in
+        read_refuses late.cause late.later (λ t. ((late.told t).same, entry_fault repo path (present old) id entries rest e list mid n k fault (tree t).0 (tree t).1 (so_far.told t).answer (late.told t).answer))
+    walk_fails e rest after m Device tree reads =
+        let late = read_after so_far.later (λ t. (so_far.told t).same) reads in
+        record { later = late.later; cause = late.cause; told = λ t. record { same = (late.told t).same; answer = tt } }
+    walk_fails e rest after m NoMemory tree reads =
+        let late = read_after so_far.later (λ t. (so_far.told t).same) reads in
+        read_starves late.later (λ t. (late.told t).same)
+
+    pub walk_done : HasRead entries → DirReads tells repo path id list mid n k old before (Ok tt)
+    walk_done tree = read_gives so_far.later (λ t. ((so_far.told t).same, goes_whole repo path (present old) id entries list mid n k (tree t).0 (tree t).1 (so_far.told t).answer))
+
+-- what is known of a tree that was read
+pub has_read : (tells : Bool) (repo : Names) (id : List ℕ) (old new : Drive) (tree : Tree) (entries : List TreeEntry) → tree.entries.items ≡ entries
+    → Reads (λ fault. MayReadTree repo id fault) tells (λ g tree. HasTree repo id g tree) (λ g fault. IsTreeFault repo id g fault) old new (Ok tree) → IsTrue tells → (get_fault repo id (present old) ≡ None) × IsTreeAt repo id (present old) entries
+has_read tells repo id old new tree entries same reads t =
+    let is = (reads.told t).answer in
+    (is.0, subst (λ (z : List TreeEntry). IsTreeAt repo id (present old) z) same is.1)

@@ -1,0 +1,9 @@
+pub mod All
+pub mod Builds
+pub mod Dirs
+pub mod Flattens
+pub mod Laws
+pub mod Leaves
+pub mod Order
+pub mod Stands
+pub mod Walks

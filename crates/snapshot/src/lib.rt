@@ -1,0 +1,20 @@
+//! Snapshots: the paths of a commit's tree, each with its leaf.
+#![tactic(auto)]
+
+mod building;
+mod clashes;
+mod entries;
+mod flattening;
+mod laws;
+mod ordering;
+mod snapshots;
+#[cfg(test)]
+mod tests;
+
+pub use building::{Built, build};
+pub use entries::{Entry, Leaf};
+pub use flattening::flatten;
+pub use laws::{
+    build_of_flatten, flatten_of_build, leaf_in_standing, path_lists, readings_have_one_end,
+};
+pub use snapshots::Snapshot;

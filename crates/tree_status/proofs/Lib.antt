@@ -1,0 +1,12 @@
+pub mod Along
+pub mod Covers
+pub mod Fronts
+pub mod Items
+pub mod Mapped
+pub mod Parts
+pub mod Paths
+pub mod Sorted
+pub mod Steps
+pub mod Tasks
+pub mod Visits
+pub mod WorkingFiles

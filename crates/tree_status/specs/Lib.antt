@@ -1,0 +1,4 @@
+pub mod All
+pub mod Tasks
+pub mod Walks
+pub mod Working
