@@ -1,4 +1,18 @@
 -- The words of this crate, for those above.
+pub use Rattle.recursive_save.specs.Blobs.{AreBlobs, AreThere, BlobReads, BlobsRead, IsBeyondSum}
+pub use Rattle.recursive_save.specs.Blobs.{IsBeyondSums, IsThere, MayReadBlob, MayReadBlobs}
+pub use Rattle.recursive_save.specs.Blobs.{blob_of, work_of}
+pub use Rattle.recursive_save.specs.Changed.{ArePaths, HasPaths, as_files, file_entry, is_among}
+pub use Rattle.recursive_save.specs.Changed.{is_gone, is_new, line_at, paths_of, shown, with_lines}
+pub use Rattle.recursive_save.specs.Changes.{LineMap, WorkFile, added, change_line, deleted}
+pub use Rattle.recursive_save.specs.Changes.{is_blob, is_changed, is_nothing, is_there, leaf_at}
+pub use Rattle.recursive_save.specs.Changes.{lines_by_path, new_blobs, new_entries, new_entry}
+pub use Rattle.recursive_save.specs.Changes.{was_exec}
+unfoldable pub use Rattle.recursive_save.specs.Changes.{change_lines}
+pub use Rattle.recursive_save.specs.Collisions.{Firsts, IsFirst, first_in, or_index}
+pub use Rattle.recursive_save.specs.Configured.{ConfigReads, HasPerson, IsConfigured}
+pub use Rattle.recursive_save.specs.Configured.{IsUnconfigured, MayConfigure, MayReadText}
+pub use Rattle.recursive_save.specs.Configured.{TextReads}
 pub use Rattle.recursive_save.specs.Creating.{CreateSays, IsVacant, MayCreate, by_tmp, create_fault}
 pub use Rattle.recursive_save.specs.Creating.{create_step, created_line, dataset_step, finish}
 pub use Rattle.recursive_save.specs.Creating.{middle_files}
@@ -10,6 +24,18 @@ unfoldable pub use Rattle.recursive_save.specs.First.{default_person, first_mess
 unfoldable pub use Rattle.recursive_save.specs.First.{settings_text}
 pub use Rattle.recursive_save.specs.Laws.{CreateKeeps, CreateMakes, CreateRefuses, IsMade}
 pub use Rattle.recursive_save.specs.Laws.{RemainsAt}
+pub use Rattle.recursive_save.specs.Planned.{HasWork, IsCommitOn, IsPlanRefusal, IsPlanWith}
+pub use Rattle.recursive_save.specs.Planned.{IsPlannedOf, MayPlan, PlanFails, plan_of}
 pub use Rattle.recursive_save.specs.Plans.{IsPlan, parts_of}
 pub use Rattle.recursive_save.specs.Remains.{CreateRemains, HeldStay, SameOutside}
-pub use Rattle.recursive_save.specs.Soundness.{CanCreate, CreateKeepsSound, CreatesSound, new_head}
+pub use Rattle.recursive_save.specs.Saving.{IsRead, IsSave, IsSavePlan, IsUnread, MaySave, SavePlan}
+pub use Rattle.recursive_save.specs.Saving.{blobs_limit, clash_fault, clash_with, clean}
+pub use Rattle.recursive_save.specs.Saving.{dataset_line, line_fault, pin_fault, plan_fault}
+pub use Rattle.recursive_save.specs.Saving.{save_commit, saved, says_all, settings_fault}
+pub use Rattle.recursive_save.specs.Saving.{settings_in, settings_limit, sum_fault, unplanned}
+pub use Rattle.recursive_save.specs.Saving.{unread, view_fault, writes}
+unfoldable pub use Rattle.recursive_save.specs.Saving.{saves, saves_nothing}
+pub use Rattle.recursive_save.specs.Soundness.{CanCreate, CanSave, CreateKeepsSound, CreatesSound}
+pub use Rattle.recursive_save.specs.Soundness.{SaveKeepsSound, new_head}
+pub use Rattle.recursive_save.specs.Views.{IsView, MayView}
+pub use Rattle.recursive_save.specs.Writing.{IsRepo}

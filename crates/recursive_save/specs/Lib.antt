@@ -1,7 +1,16 @@
 pub mod All
+pub mod Blobs
+pub mod Changed
+pub mod Changes
+pub mod Collisions
+pub mod Configured
 pub mod Creating
 pub mod First
 pub mod Laws
+pub mod Planned
 pub mod Plans
 pub mod Remains
+pub mod Saving
 pub mod Soundness
+pub mod Views
+pub mod Writing

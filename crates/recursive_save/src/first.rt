@@ -185,7 +185,8 @@ fn first_commit(alloc: Global, config: &[u8], moment: u64) -> Result<FirstCommit
     Ok(FirstCommit { objects, id })
 }
 
-fn new_object(kind: ObjKind, body: Vec<u8>) -> NewObject
+/// An object to be put.
+pub(crate) fn new_object(kind: ObjKind, body: Vec<u8>) -> NewObject
     ensures { result ≡ record { kind = kind; body = body.items } }
 {
     NewObject {

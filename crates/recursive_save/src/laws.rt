@@ -1,6 +1,6 @@
-// What follows of the making of a dataset: laws of its definition.
+// What follows of the making of a dataset and of a save: laws of their definitions.
 ghost use Rattle.recursive_save.specs.Laws.{CreateRefuses, CreateMakes, CreateKeeps};
-ghost use Rattle.recursive_save.specs.Soundness.{CreateKeepsSound};
+ghost use Rattle.recursive_save.specs.Soundness.{CreateKeepsSound, SaveKeepsSound};
 
 use config_text::{Remote, Section, config_is_read};
 use std::alloc::Global;
@@ -29,3 +29,8 @@ pub fn create_keeps_sound(alloc: Global)
     let _rest: Vec<Section> = Vec::new(alloc);
     config_is_read();
 }
+
+/// A save on a sound ground and a settled disk: sound at every moment, and in what a crash leaves.
+pub fn save_keeps_sound()
+    ensures { SaveKeepsSound }
+{}

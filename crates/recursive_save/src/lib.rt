@@ -1,9 +1,23 @@
-//! Acts that save: the making of a dataset with its first commit.
+//! Acts that save: the making of a dataset with its first commit, and the saving of its working files.
 #![tactic(auto)]
 
+mod blobs;
+mod changes;
+mod collisions;
+mod configuring;
 mod creating;
 mod first;
 mod laws;
+mod planning;
+mod saving;
+#[cfg(test)]
+mod tests;
+mod viewing;
+mod wishes;
 
 pub use creating::create;
-pub use laws::{create_keeps_sound, create_makes, create_refuses, create_remains};
+pub use laws::{
+    create_keeps_sound, create_makes, create_refuses, create_remains, save_keeps_sound,
+};
+pub use saving::save;
+pub use wishes::SaveWish;

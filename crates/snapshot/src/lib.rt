@@ -17,4 +17,5 @@ pub use flattening::flatten;
 pub use laws::{
     build_of_flatten, flatten_of_build, leaf_in_standing, path_lists, readings_have_one_end,
 };
+pub use ordering::is_valid_path;
 pub use snapshots::Snapshot;

@@ -27,8 +27,8 @@ fn is_entry_name(name: &str) -> bool
     is_name(name.as_bytes()) && name != ".git" && name != ".dlrepo"
 }
 
-// Whether it is names with slashes between them.
-fn is_valid_path(path: &str) -> bool
+/// Whether it is names with slashes between them, as a snapshot's path is.
+pub fn is_valid_path(path: &str) -> bool
     ensures { IsTrue result ↔ IsValidPath path.now }
 {
     let mut rest = path;

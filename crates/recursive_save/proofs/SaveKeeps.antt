@@ -1,0 +1,188 @@
+-- A save keeps a sound disk sound.
+use Rattle.std.proofs.Common.{◌≡◌, ℕ, Bool, true, false, cond, List, [], ◌∷◌, ◌++◌, length, nat_lt, Option, Some, None, refl, sym, ap, ◌∙◌, subst}
+use Rattle.std.specs.Prelude.{option_map, is_some}
+use Rattle.places.specs.All.{Names, text_of, Ground, file_at}
+use Rattle.faults.specs.declared.lines.Line.{Line}
+use Rattle.faults.specs.declared.faults.Fault.{Fault}
+use Rattle.file_store.specs.All.{or_next, present}
+use Rattle.git_objects.specs.All.{oid}
+use Rattle.git_objects.specs.declared.ids.Id.{Id}
+use Rattle.git_objects.specs.declared.objects.ObjKind.TheVariants.{Commit}
+use Rattle.repository.specs.All.{Head, head_of, large, object_limit, repo_head, repo_of}
+use Rattle.acts.specs.All.{Act, Step, bind, each, ending_of, gives, go_on, says, still, unless}
+use Rattle.acts.specs.All.{fold}
+use Rattle.acts.proofs.Folds.{bind_assoc}
+use Rattle.object_store.specs.All.{early_fault, first_fault, long_fault, missing, puts_missing}
+use Rattle.object_store.specs.All.{puts_objects}
+use Rattle.object_store.specs.declared.objects.NewObject.{NewObject}
+use Rattle.ref_store.specs.All.{damaged_unless, given, head_at, head_fault, head_given, long_place}
+use Rattle.ref_store.specs.All.{sets_tip, lead_fault}
+use Rattle.snapshot.specs.All.{IsBuilt}
+use Rattle.snapshot.specs.declared.entries.Entry.{Entry}
+use Rattle.snapshot.specs.declared.entries.Leaf.{Leaf}
+use Rattle.dataset.specs.All.{BeginsSound, IsRoot, NoneCollide, Sound, ActKeeps}
+use Rattle.dataset.specs.All.{saves as puts_and_sets, AreFree, IsFlatSave, IsSave as IsSaveOn}
+use Rattle.dataset.specs.All.{saved_objects, IsDataset, IsSoundAt, Has, IsLeafHeld, IsWhole}
+use Rattle.dataset.proofs.Commits.{tree_full}
+use Rattle.dataset.proofs.Moments.{moments_intact, end_sound, end_settled}
+use Rattle.dataset.proofs.Refs.{is_done}
+use Rattle.dataset.proofs.Saving.{flat_save, neither, no_fault_free}
+use Rattle.dataset.proofs.Splits.{head_no_tmp}
+use Rattle.dataset.proofs.Steps.{bind_keeps, none_watched, still_steps}
+use Rattle.tree_status.specs.All.{working}
+use Rattle.recursive_save.specs.Changes.{added, leaf_at, new_entries}
+use Rattle.recursive_save.specs.Saving.{IsRead, IsSave, IsSavePlan, SavePlan, save_commit, saves}
+use Rattle.recursive_save.specs.Saving.{saves_nothing, says_all, writes}
+use Rattle.recursive_save.specs.Saving.{clash_fault, unread, clean, unplanned, saved}
+use Rattle.recursive_save.specs.Soundness.{SaveKeepsSound}
+use Rattle.recursive_save.specs.declared.wishes.SaveWish.{SaveWish}
+use Rattle.recursive_save.proofs.Apart.{none_collide}
+use Rattle.recursive_save.proofs.OldLeaves.{all_there, bodies, each_listed, entries_same, leaves_same, new_blobs_are, old_leaf}
+
+-- LINES
+says_keep : (lines : List Line) (g : Ground) → ActKeeps (says_all lines g) g
+unfolding fold
+says_keep [] g = (still_steps {V = Unit {0}}).gives tt g
+says_keep (line ∷ lines) g = bind_keeps (says line) (λ t. each says lines) g ((still_steps {V = Unit {0}}).says line g) (λ v is. says_keep lines _)
+
+nothing_keeps : (g : Ground) → ActKeeps (saves_nothing g) g
+unfolding saves_nothing
+nothing_keeps g = bind_keeps (says _) (λ t. gives None) g ((still_steps {V = Unit {0}}).says _ g) (λ v is. (still_steps {V = Option Id}).gives None _)
+
+-- what is refused early refuses the put
+no_first : (repo : Names) (objects : List NewObject) (g : Ground) → early_fault repo objects g ≡ None → first_fault repo objects g ≡ None
+no_first repo [] g e = refl
+no_first repo (x ∷ objects) g e = by (nat_lt object_limit (length (text_of repo))) e
+  where
+    by : (b : Bool) → cond b (large repo) (or_next (first_fault repo (x ∷ objects) g) (long_fault repo (missing repo (x ∷ objects) g))) ≡ None → first_fault repo (x ∷ objects) g ≡ None
+    by true h = absurd (cc h)
+    by false h = (neither (first_fault repo (x ∷ objects) g) (long_fault repo (missing repo (x ∷ objects) g)) h).0
+
+-- HEAD
+head_stands : (p : Names) (file : Option (List ℕ)) → damaged_unless p (given head_given file) ≡ None → is_some file ≡ true
+head_stands p None e = absurd (cc e)
+head_stands p (Some text) e = refl
+
+led : (o : Option Head) (parent : List ℕ) → option_map (λ (h : Head). h.id) o ≡ Some parent → (h : Head) × (o ≡ Some h) × (h.id ≡ parent)
+led None parent e = absurd (cc e)
+led (Some h) parent e =
+    let same : h.id ≡ parent = cc e in
+    (h, refl, same)
+
+module _ (root : Names) (wish : SaveWish) (g : Ground) (outside : IsRoot root) (sound : Sound g)
+    (parent : List ℕ) (old : List Entry) (plan : SavePlan) (read : IsRead root g parent old) (planned : IsSavePlan root wish g parent old plan) where
+  abbrev repo : Names
+  repo = repo_of root
+
+  abbrev commit : List ℕ
+  commit = save_commit planned.config wish planned.tree parent
+
+  abbrev blobs : List (List ℕ)
+  blobs = bodies (added old (working root g))
+
+  is_dataset : IsDataset root g
+  is_dataset =
+      let none = neither (head_fault repo g) (lead_fault repo g (head_at repo g)) read.tip.0 in
+      record {
+        head = head_stands (repo_head repo) (file_at g (repo_head repo)) (neither (long_place (repo_head repo)) (damaged_unless (repo_head repo) (head_at repo g)) none.0).1;
+        outside = head_no_tmp root outside;
+      }
+
+  at : IsSoundAt root g
+  at = sound root is_dataset
+
+  there : (h : Head) × (head_of g repo ≡ Some h) × (h.id ≡ parent)
+  there = led (head_of g repo) parent read.tip.1
+
+  abbrev head : Head
+  head = there.0
+
+  -- what HEAD's commit leads to is held
+  whole : IsWhole repo parent g
+  whole =
+      let heads : Some at.heads.head ≡ Some head = sym at.heads.leads ∙ there.1 in
+      let same : at.heads.head ≡ head = cc heads in
+      subst (λ (i : List ℕ). IsWhole repo i g) (ap (λ (h : Head). h.id) same ∙ there.2) at.heads.whole
+
+  old_held : (path : List ℕ) (l : Leaf) → leaf_at path old ≡ Some l → IsLeafHeld repo g l
+  old_held path l is =
+      let flat = read.flat in
+      let full = tree_full repo g parent flat.fields flat.held whole in
+      let top = entries_same repo g flat.fields.tree.0 _ _ full.stands.tree flat.tree.stands.tree in
+      let each = leaves_same repo g full.dir flat.tree.dir top full.stands.subs flat.tree.stands.subs full.leaves in
+      let found = old_leaf path old l is in
+      subst (IsLeafHeld repo g) found.2 (each_listed (IsLeafHeld repo g) [] flat.tree.dir each found.0 (subst (λ (z : List Entry). Has z found.0) flat.tree.same found.1))
+
+  objects_are : plan.objects ≡ saved_objects blobs planned.trees commit
+  objects_are = planned.objects ∙ ap (λ (bs : List NewObject). bs ++ planned.trees ++ record { kind = Commit; body = commit } ∷ []) (new_blobs_are old (working root g))
+
+  module _ (clear : clash_fault [] plan.objects ≡ None) where
+    flat_so : early_fault repo plan.objects g ≡ None → IsFlatSave root head blobs (new_entries old (working root g)) planned.trees planned.fields commit g
+    flat_so none = record {
+      dataset = is_dataset;
+      leads = there.1;
+      built = subst (λ (t : List ℕ). IsBuilt (new_entries old (working root g)) t planned.trees) (sym planned.tree_is) planned.built;
+      leaves = all_there repo g old old_held (working root g);
+      text = planned.text;
+      parents = planned.parent_is ∙ ap (λ (i : List ℕ). record { 0 = i } ∷ []) (sym there.2);
+      free = subst (λ (os : List NewObject). AreFree repo os g) objects_are (no_fault_free repo plan.objects g (no_first repo plan.objects g none));
+      own = subst (λ (os : List NewObject). NoneCollide repo os) objects_are (none_collide repo plan.objects clear);
+    }
+
+    save_on : early_fault repo plan.objects g ≡ None → IsSaveOn root head plan.objects plan.commit g
+    save_on none =
+        subst (λ (i : List ℕ). IsSaveOn root head plan.objects i g) (sym planned.commit)
+        (subst (λ (os : List NewObject). IsSaveOn root head os (oid Commit commit) g) (sym objects_are)
+        (flat_save root head blobs (new_entries old (working root g)) planned.trees planned.fields commit g sound (flat_so none)))
+
+    -- THE WRITING
+    abbrev rest : Step (Option Id)
+    rest = bind (says_all plan.lines) (λ t. gives (Some (record { 0 = plan.commit })))
+
+    rest_keeps : (h : Ground) → ActKeeps (rest h) h
+    rest_keeps h = bind_keeps (says_all plan.lines) (λ t. gives (Some (record { 0 = plan.commit }))) h (says_keep plan.lines h) (λ v is. (still_steps {V = Option Id}).gives _ _)
+
+    abbrev written_by : Option Fault → Act (Option Id)
+    written_by o = go_on (go_on (still (ending_of o)) (ending_of o) g (λ t. puts_missing repo plan.objects)) (go_on (still (ending_of o)) (ending_of o) g (λ t. puts_missing repo plan.objects)).ending g
+        (λ t. bind (sets_tip repo plan.commit) (λ u. rest))
+
+    writes_kept : early_fault repo plan.objects g ≡ None → ActKeeps (writes root plan g) g
+    writes_kept none =
+        subst (λ (a : Act (Option Id)). ActKeeps a g) (bind_assoc (puts_objects repo plan.objects) (λ t. sets_tip repo plan.commit) (λ t. rest) g)
+        (bind_keeps (puts_and_sets repo plan.objects plan.commit) (λ t. rest) g (is_done root head plan.objects plan.commit g (save_on none)).keeps (λ v is. rest_keeps _))
+
+    writes_keep : ActKeeps (writes root plan g) g
+    unfolding puts_objects bind unless
+    writes_keep = by (early_fault repo plan.objects g) refl
+      where
+        by : (o : Option Fault) → early_fault repo plan.objects g ≡ o → ActKeeps (written_by o) g
+        by (Some fault) e = record { rounds = tt; loose = none_watched }
+        by None e = subst (λ (o : Option Fault). ActKeeps (written_by o) g) e (writes_kept e)
+
+  abbrev saved_by : Option Fault → Act (Option Id)
+  saved_by o = go_on (still (ending_of o)) (ending_of o) g (λ t. writes root plan)
+
+  saves_keep : ActKeeps (saves root plan g) g
+  unfolding saves bind unless
+  saves_keep = by (clash_fault [] plan.objects) refl
+    where
+      by : (o : Option Fault) → clash_fault [] plan.objects ≡ o → ActKeeps (saved_by o) g
+      by (Some fault) e = record { rounds = tt; loose = none_watched }
+      by None e =
+          let kept = writes_keep e in
+          record { rounds = kept.rounds; loose = kept.loose }
+
+act_keeps : (root : Names) (wish : SaveWish) (g : Ground) → IsRoot root → Sound g → (act : Act (Option Id)) → IsSave root wish g act → ActKeeps act g
+act_keeps root wish g outside sound _ (unread fault why) = record { rounds = tt; loose = none_watched }
+act_keeps root wish g outside sound _ (clean parent old read same) = nothing_keeps g
+act_keeps root wish g outside sound _ (unplanned parent old fault read changed why) = record { rounds = tt; loose = none_watched }
+act_keeps root wish g outside sound _ (saved parent old plan read changed none planned) = saves_keep root wish g outside sound parent old plan read planned
+
+pub save_sound : SaveKeepsSound
+save_sound root wish act old new can is =
+    let begins : BeginsSound act old = record { sound = can.sound; settled = can.settled; keeps = act_keeps root wish (present old) can.outside can.sound act is } in
+    record {
+      moments = moments_intact act old begins new;
+      sound = end_sound act old begins new;
+      settled = end_settled act old begins new;
+    }

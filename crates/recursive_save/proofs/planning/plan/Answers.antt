@@ -1,0 +1,25 @@
+use Rattle.std.proofs.Common.{ap, ◌∙◌}
+use Rattle.acts.proofs.Reading.{read_exits}
+use Rattle.recursive_save.specs.Changed.{shown}
+use Rattle.recursive_save.proofs.PlanFacts.{Picked, config_fails, blobs_fail, plan_ends}
+use Rattle.recursive_save.proofs.planning.plan.Goals as goal
+
+pub returns-in_err-config : goal.returns-in_err-config
+returns-in_err-config g c =
+    read_exits c.from_residual.ensures.1 (config_fails g.F.Files.tells c.args.root.now c.args.wish.now c.args.view.now c.in_err-config.ensures.reads)
+
+pub returns-in_err-blobs : goal.returns-in_err-blobs
+returns-in_err-blobs g c =
+    let files = shown c.as_slice-2.result.now in
+    let picked : Picked g.F.Files.tells c.args.root.now c.args.wish.now c.args.view.now files =
+    λ work e. ap shown c.as_slice-2.ensures.value ∙ c.in_ok-added.ensures work (c.as_slice.ensures.value ∙ e) in
+    read_exits c.from_residual-in_err-blobs.ensures.1
+    (blobs_fail g.F.Files.tells c.args.root.now c.args.wish.now c.args.view.now files c.requires.looked c.in_ok-config.ensures.reads picked c.in_err-blobs.ensures)
+
+pub returns : goal.returns
+returns g c =
+    let files = shown c.as_slice-2.result.now in
+    let picked : Picked g.F.Files.tells c.args.root.now c.args.wish.now c.args.view.now files =
+    λ work e. ap shown c.as_slice-2.ensures.value ∙ c.in_ok-added.ensures work (c.as_slice.ensures.value ∙ e) in
+    plan_ends g.F.Files.tells c.args.root.now c.args.wish.now c.args.view.now files c.requires.looked c.in_ok-config.ensures.reads picked c.in_ok-blobs.ensures
+    (g.met.F.Files.grounded c.args.files.now) c.complete.result c.complete.ensures.plan c.complete.ensures.fails

@@ -1,0 +1,79 @@
+-- The plan of a save, as the program has it.
+use Rattle.std.specs.Prelude.{◌≡◌, ℕ, Bool, IsTrue, List, [], ◌∷◌, ◌++◌, Some, None, codes}
+use Rattle.places.specs.All.{Names, Ground}
+use Rattle.faults.specs.declared.faults.Fault.{Fault}
+use Rattle.faults.specs.declared.faults.Trouble.{Trouble}
+use Rattle.faults.specs.declared.faults.Fault.TheVariants.{BadLine, TooLarge, Dirty, PathClash}
+use Rattle.faults.specs.declared.faults.Trouble.TheVariants.{Refused, NoMemory}
+use Rattle.git_objects.specs.All.{oid, Fields, IsCommitText}
+use Rattle.git_objects.specs.declared.ids.Id.{Id}
+use Rattle.git_objects.specs.declared.objects.ObjKind.TheVariants.{Commit}
+use Rattle.config_text.specs.All.{PlainConfig}
+use Rattle.repository.specs.All.{settings_place}
+use Rattle.object_store.specs.declared.objects.NewObject.{NewObject}
+use Rattle.snapshot.specs.All.{IsBuilt, IsLeastClash}
+use Rattle.recursive_save.specs.Changed.{as_files}
+use Rattle.recursive_save.specs.Changes.{WorkFile, new_entries, change_lines}
+use Rattle.recursive_save.specs.Saving.{SavePlan, IsSavePlan, plan_fault, save_commit, dataset_line}
+use Rattle.recursive_save.specs.Views.{IsView}
+use Rattle.recursive_save.specs.declared.planning.Planned.{Planned}
+use Rattle.recursive_save.specs.declared.viewing.View.{View}
+use Rattle.recursive_save.specs.declared.wishes.SaveWish.{SaveWish}
+
+-- A plan without where it lies in memory.
+abbrev pub plan_of : Planned → SavePlan
+plan_of planned = record {
+  objects = planned.objects.items;
+  commit = planned.commit.0;
+  lines = planned.lines.items;
+}
+
+-- Where this is what was looked at: nothing refuses the plan, and it is the save's.
+abbrev pub IsPlannedOf : Names → SaveWish → View → Ground → Planned → Type 0
+IsPlannedOf root wish view g planned =
+    IsView root g view → (plan_fault root g view.old ≡ None)
+    × IsSavePlan root wish g view.parent.0 view.old (plan_of planned)
+
+-- Where this is what was looked at: the refusal is the plan's.
+abbrev pub IsPlanRefusal : Names → View → Ground → Fault → Type 0
+IsPlanRefusal root view g fault = IsView root g view → plan_fault root g view.old ≡ Some fault
+
+-- The faults of planning, whatever the files tell. Of files that tell, none is other than it was at
+-- the first reading, and none lies above another.
+abbrev pub MayPlan : Bool → Names → Fault → Type 0
+MayPlan tells root (BadLine place line) = place ≡ settings_place root
+MayPlan tells root (TooLarge path size) = Unit {0}
+MayPlan tells root (Dirty path) = IsTrue tells → ⊥
+MayPlan tells root (PathClash path) = IsTrue tells → ⊥
+MayPlan tells root fault = ⊥
+
+-- The body of a commit: its tree is this one, and its one parent.
+pub record IsCommitOn (body tree parent : List ℕ) : Type 0 where
+  pub fields : Fields
+  pub text : IsCommitText body fields
+  pub tree_is : fields.tree.0 ≡ tree
+  pub parent_is : fields.parents ≡ record { 0 = parent } ∷ []
+
+-- A plan of blobs that were read: they, the trees of the new snapshot, and the commit.
+pub record IsPlanWith (config : PlainConfig) (view : View) (wish : SaveWish)
+    (blobs : List NewObject) (work : List WorkFile) (plan : SavePlan) : Type 0 where
+  pub tree : List ℕ
+  pub trees : List NewObject
+  pub built : IsBuilt (new_entries view.old work) tree trees
+  pub objects : plan.objects ≡ blobs ++ trees
+      ++ record { kind = Commit; body = save_commit config wish tree view.parent.0 } ∷ []
+  pub commit : plan.commit ≡ oid Commit (save_commit config wish tree view.parent.0)
+  pub body : IsCommitOn (save_commit config wish tree view.parent.0) tree view.parent.0
+  pub lines : plan.lines ≡ change_lines view.old work ++ dataset_line (codes "ok") ∷ []
+
+-- The files that were looked at are these.
+abbrev pub HasWork : View → List WorkFile → Type 0
+HasWork view work = view.files.items ≡ as_files work
+
+-- No plan is made of blobs that were read: for want of memory, or one of the files lies above
+-- another.
+abbrev pub PlanFails : View → Trouble → Type 0
+PlanFails view NoMemory = Unit {0}
+PlanFails view (Refused (PathClash path)) =
+    (work : List WorkFile) → HasWork view work → IsLeastClash (new_entries view.old work) path
+PlanFails view e = ⊥

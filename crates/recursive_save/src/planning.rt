@@ -1,0 +1,153 @@
+// The plan of a save: the configuration, the blobs that are new, the trees, the commit, the lines.
+ghost use Rattle.std.specs.Prelude.{◌≡◌, ◌++◌, ◌∷◌, [], List, IsTrue, IfOk, IfErr, codes};
+ghost use Rattle.file_store.specs.All.{present};
+ghost use Rattle.git_objects.specs.All.{person_text, person_of};
+ghost use Rattle.config_text.specs.All.{plain_config};
+ghost use Rattle.acts.specs.All.{Reads};
+ghost use Rattle.recursive_save.specs.Changed.{ArePaths};
+ghost use Rattle.recursive_save.specs.Changes.{WorkFile, change_lines};
+ghost use Rattle.recursive_save.specs.Configured.{HasPerson};
+ghost use Rattle.recursive_save.specs.Saving.{dataset_line, save_commit};
+ghost use Rattle.recursive_save.specs.Planned.{IsPlannedOf, IsPlanRefusal, MayPlan, IsPlanWith, HasWork, PlanFails};
+ghost use Rattle.recursive_save.specs.Planned.{plan_of, IsCommitOn};
+ghost use Rattle.recursive_save.specs.Views.{IsView};
+
+use crate::blobs::read_blobs;
+use crate::changes::{added_files, lines_of, new_snapshot};
+use crate::configuring::read_settings;
+use crate::first::{new_object, text};
+use crate::viewing::View;
+use crate::wishes::SaveWish;
+use config_text::RepoConfig;
+use faults::{Line, Trouble};
+use file_store::{Bytes, Files, Place};
+use git_objects::{Commit, Id, ObjErr, ObjKind, Person, object_id};
+use object_store::NewObject;
+use snapshot::build;
+use std::alloc::{AllocError, Global};
+
+/// The objects of a save, its commit's id, and its lines.
+#[derive(Drop)]
+pub(crate) struct Planned {
+    pub(crate) objects: Vec<NewObject>,
+    pub(crate) commit: Id,
+    pub(crate) lines: Vec<Line>,
+}
+
+// The configured person at a moment.
+fn person(alloc: Global, config: &RepoConfig, moment: u64) -> Result<Person, AllocError>
+    requires { HasPerson config.now }
+    ensures { IfOk result (λ person. person_text person
+        ≡ person_of config.now.name config.now.email moment (codes "+0000")) }
+{
+    Ok(Person {
+        name: text(alloc, config.name.as_str())?,
+        email: text(alloc, config.email.as_str())?,
+        secs: moment,
+        zone: *b"+0000",
+    })
+}
+
+// The body of the commit of a tree on a parent.
+fn commit_body(
+    alloc: Global,
+    config: &RepoConfig,
+    wish: &SaveWish,
+    tree: Id,
+    parent: Id,
+) -> Result<Vec<u8>, AllocError>
+    requires { HasPerson config.now }
+    ensures text { IfOk result (λ body. body.items ≡ save_commit (plain_config config.now) wish.now tree.0 parent.0) }
+    ensures fields { IfOk result (λ body. IsCommitOn
+        (save_commit (plain_config config.now) wish.now tree.0 parent.0) tree.0 parent.0) }
+{
+    let mut parents = Vec::new(alloc);
+    parents.push(parent)?;
+    let commit = Commit {
+        tree,
+        parents,
+        author: person(alloc, config, wish.moment)?,
+        committer: person(alloc, config, wish.moment)?,
+        extra: Bytes::new(Vec::new(alloc)),
+        message: Bytes::new(Vec::from_slice(alloc, wish.message.as_slice())?),
+    };
+    match commit.encode(alloc) {
+        Ok(body) => Ok(body),
+        Err(ObjErr::NoMemory) => Err(AllocError),
+        Err(_) => unreachable!(),
+    }
+}
+
+// The last line of a save, of the dataset itself.
+fn saved_line(alloc: Global) -> Result<Line, AllocError>
+    ensures { IfOk result (λ line. line ≡ dataset_line (codes "ok")) }
+{
+    Ok(Line {
+        action: text(alloc, "save")?,
+        status: text(alloc, "ok")?,
+        path: text(alloc, ".")?,
+        kind: text(alloc, "dataset")?,
+    })
+}
+
+// The lines of the changes, and that of the dataset.
+fn all_lines(alloc: Global, view: &View) -> Result<Vec<Line>, AllocError>
+    ensures { (work : List WorkFile) → HasWork view.now work → IfOk result (λ lines. lines.items
+        ≡ change_lines view.now.old work ++ dataset_line (codes "ok") ∷ []) }
+{
+    let mut lines = lines_of(alloc, &view.old, view.files.as_slice())?;
+    lines.push(saved_line(alloc)?)?;
+    Ok(lines)
+}
+
+// The plan of blobs that were read: the trees of the new snapshot, the commit, and the lines.
+fn complete(
+    alloc: Global,
+    config: &RepoConfig,
+    view: &View,
+    wish: &SaveWish,
+    blobs: Vec<NewObject>,
+) -> Result<Planned, Trouble>
+    requires person { HasPerson config.now }
+    requires ordered { ArePaths view.now.files.items }
+    ensures plan { (work : List WorkFile) → HasWork view.now work → IfOk result
+        (λ planned. IsPlanWith (plain_config config.now) view.now wish.now blobs.items work (plan_of planned)) }
+    ensures fails { IfErr result (PlanFails view.now) }
+{
+    let new = new_snapshot(alloc, &view.old, view.files.as_slice())?;
+    let mut built = build(alloc, &new)?;
+    let lines = all_lines(alloc, view)?;
+    let body = commit_body(alloc, config, wish, built.root, view.parent)?;
+    let commit = object_id(ObjKind::Commit, body.as_slice());
+    let mut objects = blobs;
+    objects.append(&mut built.trees)?;
+    objects.push(new_object(ObjKind::Commit, body))?;
+    Ok(Planned {
+        objects,
+        commit,
+        lines,
+    })
+}
+
+/// The plan of a save of what was looked at.
+///
+/// Refuses what the configuration is refused for, then TooLarge of the new blobs. Dirty and PathClash come only where
+/// the files don't tell what they hold.
+pub(crate) fn plan<F: Files>(
+    alloc: Global,
+    files: &mut F,
+    root: &Place,
+    view: &View,
+    wish: &SaveWish,
+) -> Result<Planned, Trouble>
+    requires looked { IsTrue F.tells → IsView root.now (present (F.drive files.old)) view.now }
+    requires ordered { ArePaths view.now.files.items }
+    ensures { Reads (λ fault. MayPlan F.tells root.now fault) F.tells
+        (λ g planned. IsPlannedOf root.now wish.now view.now g planned)
+        (λ g fault. IsPlanRefusal root.now view.now g fault) (F.drive files.old) (F.drive files.new) result }
+{
+    let config = read_settings(alloc, files, root)?;
+    let added = added_files(alloc, &view.old, view.files.as_slice())?;
+    let blobs = read_blobs(alloc, files, root, added.as_slice())?;
+    complete(alloc, &config, view, wish, blobs)
+}
