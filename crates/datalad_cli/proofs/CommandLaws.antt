@@ -1,7 +1,7 @@
 -- A command's act, printed.
-use Rattle.std.proofs.Common.{◌≡◌, inl, inr, ℕ, Bool, IsTrue, List, [], ◌∷◌, ◌++◌, Result, Ok, Err, refl, sym, ◌∙◌, ap, subst, arith, length-append}
+use Rattle.std.proofs.Common.{◌≡◌, inl, inr, ℕ, Bool, List, [], ◌++◌, Result, Ok, Err, refl, sym, ◌∙◌, ap, subst, arith}
 use Rattle.std.proofs.lemmas.List.{take-append-le}
-use Rattle.file_store.specs.All.{Drive, present, Tape}
+use Rattle.file_store.specs.All.{Drive, Tape}
 use Rattle.faults.specs.All.{fault_text}
 use Rattle.faults.specs.declared.lines.Line.{Line}
 use Rattle.faults.specs.declared.faults.Fault.{Fault}
@@ -9,14 +9,16 @@ use Rattle.faults.specs.declared.faults.Trouble.{Trouble}
 use Rattle.faults.specs.declared.faults.Trouble.TheVariants.{Refused as RefusedBy}
 use Rattle.faults.specs.declared.faults.Trouble.TheVariants.{Device as ByDevice}
 use Rattle.faults.specs.declared.faults.Trouble.TheVariants.{NoMemory as ByMemory}
-use Rattle.acts.specs.All.{Act, Ending, Gives, Refuses, Breaks, Step, Acts, Reaches, HasCome}
-use Rattle.acts.specs.All.{EndsRefused, EndsAs, HasCause}
+use Rattle.acts.specs.All.{Act, Ending, Gives, Refuses, Breaks, ActsAs, Reaches, HasCome}
+use Rattle.acts.specs.All.{EndsRefused, EndsAs, HasCause, IsHalt, WasHalted}
 use Rattle.datalad_cli.specs.Answer.{lines_text}
-use Rattle.datalad_cli.specs.Commands.{Command, MayAnswer}
+use Rattle.datalad_cli.specs.Commands.{Command, IsActOf, MayAnswer}
 use Rattle.datalad_cli.specs.Decides.{HasFault, MayEnd, CommandSays}
 use Rattle.datalad_cli.specs.Reports.{Failure, Heard, Tapes, Says, SaysPart, TookPart, ReportEnds}
 use Rattle.datalad_cli.specs.Reports.{of_device, of_memory, outcome_text}
-use Rattle.datalad_cli.specs.Ends.{World, Telling, ending_text, WasCutOff, StatusEnds}
+use Rattle.datalad_cli.specs.Ends.{World, Telling, ending_text, WasCutOff, StatusEnds, EndsHalted}
+use Rattle.datalad_cli.specs.Ends.{StatusCause}
+use Rattle.datalad_cli.specs.Ends.{CommandEnds}
 use Rattle.datalad_cli.specs.declared.status.Status.{Status}
 use Rattle.datalad_cli.specs.declared.status.Status.TheVariants.{Done, Refused, Usage, NoMemory}
 use Rattle.datalad_cli.specs.declared.status.Status.TheVariants.{Device, CommandFailed}
@@ -56,30 +58,62 @@ module _ (act : Act (Unit {0})) (lines : List Line) (d0 d1 : Drive) where
     };
   }
 
-module _ (telling : Telling) {may : Fault → Type 0} {step : Step (Unit {0})} {lines : List Line} (old new : World) {r : Result (Unit {0}) Trouble} (acts : Acts may telling.files step [] lines old.drive new.drive r) where
-  abbrev As : Result (Unit {0}) Trouble → Type 0
-  As r = EndsAs (step (present old.drive)) [] lines old.drive new.drive r
+module _ (heard : Heard) (act : Act (Unit {0})) (lines : List Line) (old new : World) where
+  -- the act's ending, printed
+  act_ends : (r : Result (Unit {0}) Trouble) → EndsAs act [] lines old.drive new.drive r → HasCome act [] lines old.drive new.drive
+      → (s : Status) → ReportEnds heard lines r old.tapes new.tapes s → StatusEnds heard act old new s
+  act_ends r ends came Done (is, says) =
+      let was = subst (λ (r : Result (Unit {0}) Trouble). EndsAs act [] lines old.drive new.drive r) is ends in
+      (was.ending, was.reaches, subst (λ (l : List Line). Says heard (lines_text l) [] old.tapes new.tapes) was.said says)
+  act_ends r ends came (Refused fault) (is, says) =
+      let was = subst (λ (r : Result (Unit {0}) Trouble). EndsAs act [] lines old.drive new.drive r) is ends in
+      (was.ending, subst (λ (l : List Line). Says heard (lines_text l) (fault_text fault) old.tapes new.tapes) was.said says)
+  act_ends r ends came Device (why, says) = cut act lines old.drive new.drive heard of_device old.tapes new.tapes r ends came says
+  act_ends r ends came NoMemory says = cut act lines old.drive new.drive heard of_memory old.tapes new.tapes r ends came says
+  act_ends r ends came (Usage at) h = h
+  act_ends r ends came (CommandFailed got) h = h
 
-  cut_off : (failure : Failure) → SaysPart telling.heard (lines_text lines) (outcome_text r) failure old.tapes new.tapes → IsTrue telling.files → WasCutOff telling.heard (step (present old.drive)) failure old new
-  cut_off failure says t =
-      let goes = acts.told t in
-      cut (step (present old.drive)) lines old.drive new.drive telling.heard failure old.tapes new.tapes r goes.ends goes.came says
+no_text : (r : Result (Unit {0}) Trouble) → IsHalt r → outcome_text r ≡ []
+no_text (Ok _) h = absurd h
+no_text (Err (RefusedBy fault)) h = absurd h
+no_text (Err ByDevice) h = refl
+no_text (Err ByMemory) h = refl
+
+module _ (heard : Heard) (lines : List Line) (old new : World) (r : Result (Unit {0}) Trouble) (halt : WasHalted [] lines old.drive new.drive r) where
+  no_part : (failure : Failure) → SaysPart heard (lines_text lines) (outcome_text r) failure old.tapes new.tapes → SaysPart heard [] [] failure old.tapes new.tapes
+  no_part failure says =
+      subst (λ (l : List Line). SaysPart heard (lines_text l) [] failure old.tapes new.tapes) halt.said
+      (subst (λ (t : List ℕ). SaysPart heard (lines_text lines) t failure old.tapes new.tapes) (no_text r halt.why) says)
+
+  -- a command that was halted at once, printed
+  halt_ends : (s : Status) → ReportEnds heard lines r old.tapes new.tapes s → EndsHalted heard old new s
+  halt_ends Done (is, says) = subst (λ (r : Result (Unit {0}) Trouble). IsHalt r) is halt.why
+  halt_ends (Refused fault) (is, says) = subst (λ (r : Result (Unit {0}) Trouble). IsHalt r) is halt.why
+  halt_ends Device (why, says) = (halt.kept, no_part of_device says)
+  halt_ends NoMemory says = (halt.kept, no_part of_memory says)
+  halt_ends (Usage at) h = h
+  halt_ends (CommandFailed got) h = h
+
+module _ (telling : Telling) (command : Command) (lines : List Line) (old new : World) (r : Result (Unit {0}) Trouble)
+    (acts : ActsAs (λ fault. MayAnswer telling.files command fault) telling.files (λ g act. IsActOf command g act) [] lines old.drive new.drive r) where
+  cause_of : (s : Status) → ReportEnds telling.heard lines r old.tapes new.tapes s → StatusCause old new s
+  cause_of Done h = tt
+  cause_of (Refused fault) h = tt
+  cause_of Device (why, says) =
+      elim why [ inl is ↦ inl (subst (λ (r : Result (Unit {0}) Trouble). HasCause (λ fault. MayAnswer telling.files command fault) old.drive new.drive r) is acts.cause) | inr rose ↦ inr rose ]
+  cause_of NoMemory h = tt
+  cause_of (Usage at) h = h
+  cause_of (CommandFailed got) h = h
 
   -- ONE LAW for all commands
-  pub prints : (s : Status) → ReportEnds telling.heard lines r old.tapes new.tapes s → StatusEnds telling (step (present old.drive)) old new s
-  prints Done (is, says) = λ t.
-      let was = subst As is (acts.told t).ends in
-      (was.ending, was.reaches, subst (λ (l : List Line). Says telling.heard (lines_text l) [] old.tapes new.tapes) was.said says)
-  prints (Refused fault) (is, says) = λ t.
-      let was = subst As is (acts.told t).ends in
-      (was.ending, subst (λ (l : List Line). Says telling.heard (lines_text l) (fault_text fault) old.tapes new.tapes) was.said says)
-  prints Device (why, says) = (
-    elim why [ inl is ↦ inl (subst (λ (r : Result (Unit {0}) Trouble). HasCause may old.drive new.drive r) is acts.cause) | inr rose ↦ inr rose ],
-    λ t. cut_off of_device says t,
-  )
-  prints NoMemory says = λ t. cut_off of_memory says t
-  prints (Usage at) h = h
-  prints (CommandFailed got) h = h
+  pub prints : (s : Status) → ReportEnds telling.heard lines r old.tapes new.tapes s → CommandEnds telling command old new s
+  prints s report = record {
+    cause = cause_of s report;
+    told = λ t. elim (acts.told t) [
+      | inl halt ↦ inl (halt_ends telling.heard lines old new r halt s report)
+      | inr one ↦ inr (one.0, one.1, act_ends telling.heard one.0 lines old new r one.2.ends one.2.came s report)
+    ];
+  }
 
 -- the faults of an outcome
 pub fault_of : (tells : Bool) (command : Command) (d0 d1 : Drive) (r : Result (Unit {0}) Trouble) → HasCause (λ fault. MayAnswer tells command fault) d0 d1 r → HasFault tells command r

@@ -1,6 +1,9 @@
 -- Lemmas that several answers share.
+pub mod Acting
 pub mod CommandLaws
 pub mod Kept
 pub mod Leads
+pub mod Nearest
 pub mod Printed
 pub mod Roots
+pub mod Upwards

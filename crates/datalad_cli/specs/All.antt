@@ -3,15 +3,21 @@ pub use Rattle.datalad_cli.specs.Answer.{Call, call_of, device_text, lines_text,
 pub use Rattle.datalad_cli.specs.Answer.{usage_text}
 pub use Rattle.datalad_cli.specs.Answered.{Answered}
 pub use Rattle.datalad_cli.specs.Codes.{code_of}
-pub use Rattle.datalad_cli.specs.Commands.{Asks, Command, Create, Leaves, MayAnswer, MaySay}
-pub use Rattle.datalad_cli.specs.Commands.{Misread, Reading, form_reading, reading, step_of}
+pub use Rattle.datalad_cli.specs.Commands.{Asks, Command, Create, IsActAt, IsActOf, Leaves}
+pub use Rattle.datalad_cli.specs.Commands.{MayAnswer, MaySay, Misread, Reading, Save, command_by}
+pub use Rattle.datalad_cli.specs.Commands.{command_of, creates, ending_only, form_reading, reading}
+pub use Rattle.datalad_cli.specs.Commands.{wish_of, without_value}
 pub use Rattle.datalad_cli.specs.Decides.{CommandSays, EndsCutOff, EndsSaying, HasFault, MayEnd}
 pub use Rattle.datalad_cli.specs.Decides.{WordsDecide}
-pub use Rattle.datalad_cli.specs.Ends.{AtEachMoment, CallEnds, CallGoes, StatusEnds, Telling}
-pub use Rattle.datalad_cli.specs.Ends.{WasCutOff, World, ending_text, telling_of, world_of}
+pub use Rattle.datalad_cli.specs.Ends.{AtEachMoment, CallEnds, CallGoes, CommandEnds, EndsHalted}
+pub use Rattle.datalad_cli.specs.Ends.{StatusCause, StatusEnds, Telling, WasCutOff, World}
+pub use Rattle.datalad_cli.specs.Ends.{ending_text, telling_of, world_of}
+pub use Rattle.datalad_cli.specs.Finding.{head_within, is_root, root_up, stands_within}
+unfoldable pub use Rattle.datalad_cli.specs.Finding.{root_at}
 pub use Rattle.datalad_cli.specs.Reports.{Failure, Heard, RefusalEnds, ReportEnds, Says, SaysPart}
 pub use Rattle.datalad_cli.specs.Reports.{SomeRose, Tapes, TookPart, TookText, UsageEnds}
 pub use Rattle.datalad_cli.specs.Reports.{WasCutShort, WasHindered, of_device, of_memory}
 pub use Rattle.datalad_cli.specs.Reports.{outcome_text}
-pub use Rattle.datalad_cli.specs.Words.{dir_word, leads}
-unfoldable pub use Rattle.datalad_cli.specs.Words.{is_place, may_be_made, misread}
+pub use Rattle.datalad_cli.specs.Words.{after_create, after_message, after_option, after_save}
+pub use Rattle.datalad_cli.specs.Words.{begins_create, dir_word, leads, message_word}
+unfoldable pub use Rattle.datalad_cli.specs.Words.{is_place, may_be_made, message_of, misread}

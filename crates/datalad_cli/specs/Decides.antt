@@ -1,8 +1,6 @@
 -- What the words of a call alone decide, whatever the files tell.
-use Rattle.std.specs.Prelude.{ℕ, Bool, List, [], Result, Ok, Err}
-use Rattle.faults.specs.All.{fault_text}
+use Rattle.std.specs.Prelude.{Bool, List, Result, Ok, Err}
 use Rattle.faults.specs.declared.lines.Line.{Line}
-use Rattle.faults.specs.declared.faults.Fault.{Fault}
 use Rattle.faults.specs.declared.faults.Trouble.{Trouble}
 use Rattle.faults.specs.declared.faults.Trouble.TheVariants.{Refused as RefusedBy}
 use Rattle.faults.specs.declared.faults.Trouble.TheVariants.{Device as ByDevice}

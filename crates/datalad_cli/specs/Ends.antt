@@ -7,7 +7,7 @@ use Rattle.faults.specs.All.{fault_text}
 use Rattle.acts.specs.All.{Act, Event, Ending, Gives, Refuses, Breaks, rounds_of, lines_of}
 use Rattle.acts.specs.All.{lines_in, IsFirm, Reaches, EndsRefused, Moments, Nothing}
 use Rattle.datalad_cli.specs.Answer.{lines_text}
-use Rattle.datalad_cli.specs.Commands.{Command, step_of, Leaves, Reading, Misread, Asks}
+use Rattle.datalad_cli.specs.Commands.{Command, IsActOf, Leaves, Reading, Misread, Asks}
 use Rattle.datalad_cli.specs.Reports.{Failure, Heard, Tapes, Says, SaysPart, SomeRose, UsageEnds}
 use Rattle.datalad_cli.specs.Reports.{of_device, of_memory}
 use Rattle.datalad_cli.specs.declared.status.Status.{Status}
@@ -53,21 +53,47 @@ pub record WasCutOff (heard : Heard) (act : Act (Unit {0})) (failure : Failure) 
       (ending_text act.ending) failure old.tapes new.tapes
 
 -- The status and the texts are the act's, and after Done and a refusal before a round its last
--- ground stands; or a count of faults rose, or memory was wanting, and the command was cut off.
-abbrev pub StatusEnds : Telling → Act (Unit {0}) → World → World → Status → Type 0
-StatusEnds telling act old new Done =
-    IsTrue telling.files → (act.ending ≡ Gives tt) × Reaches act old.drive new.drive
-    × Says telling.heard (lines_text (lines_in act)) [] old.tapes new.tapes
-StatusEnds telling act old new (Refused fault) =
-    IsTrue telling.files → EndsRefused act.ending fault (Reaches act old.drive new.drive)
-    × Says telling.heard (lines_text (lines_in act)) (fault_text fault) old.tapes new.tapes
-StatusEnds telling act old new Device =
-    (Rose old.drive.faults new.drive.faults ⊎ SomeRose old.tapes new.tapes)
-    × (IsTrue telling.files → WasCutOff telling.heard act of_device old new)
-StatusEnds telling act old new NoMemory =
-    IsTrue telling.files → WasCutOff telling.heard act of_memory old new
-StatusEnds telling act old new (Usage at) = ⊥
-StatusEnds telling act old new (CommandFailed got) = ⊥
+-- ground stands; or the command was cut off.
+abbrev pub StatusEnds : Heard → Act (Unit {0}) → World → World → Status → Type 0
+StatusEnds heard act old new Done =
+    (act.ending ≡ Gives tt) × Reaches act old.drive new.drive
+    × Says heard (lines_text (lines_in act)) [] old.tapes new.tapes
+StatusEnds heard act old new (Refused fault) =
+    EndsRefused act.ending fault (Reaches act old.drive new.drive)
+    × Says heard (lines_text (lines_in act)) (fault_text fault) old.tapes new.tapes
+StatusEnds heard act old new Device = WasCutOff heard act of_device old new
+StatusEnds heard act old new NoMemory = WasCutOff heard act of_memory old new
+StatusEnds heard act old new (Usage at) = ⊥
+StatusEnds heard act old new (CommandFailed got) = ⊥
+
+-- A command was halted before it did or said anything.
+abbrev pub EndsHalted : Heard → World → World → Status → Type 0
+EndsHalted heard old new Device =
+    (new.drive.history ≡ old.drive.history) × SaysPart heard [] [] of_device old.tapes new.tapes
+EndsHalted heard old new NoMemory =
+    (new.drive.history ≡ old.drive.history) × SaysPart heard [] [] of_memory old.tapes new.tapes
+EndsHalted heard old new Done = ⊥
+EndsHalted heard old new (Refused fault) = ⊥
+EndsHalted heard old new (Usage at) = ⊥
+EndsHalted heard old new (CommandFailed got) = ⊥
+
+-- The cause of a command's status, whatever the files tell: for Device, a count of faults rose.
+abbrev pub StatusCause : World → World → Status → Type 0
+StatusCause old new Done = Unit {0}
+StatusCause old new (Refused fault) = Unit {0}
+StatusCause old new Device =
+    Rose old.drive.faults new.drive.faults ⊎ SomeRose old.tapes new.tapes
+StatusCause old new NoMemory = Unit {0}
+StatusCause old new (Usage at) = ⊥
+StatusCause old new (CommandFailed got) = ⊥
+
+-- A command ends as an act of it does; or it was halted before it did or said anything.
+pub record CommandEnds (telling : Telling) (command : Command) (old new : World) (status : Status)
+    : Type 0 where
+  pub cause : StatusCause old new status
+  pub told : IsTrue telling.files → EndsHalted telling.heard old new status
+      ⊎ ((act : Act (Unit {0})) × IsActOf command (present old.drive) act
+      × StatusEnds telling.heard act old new status)
 
 -- Words without a reading touch the second output alone; a command ends as its act does.
 abbrev pub CallEnds : Telling → Reading → World → World → Status → Type 0
@@ -75,12 +101,14 @@ CallEnds telling (Misread at) old new status =
     (new.drive ≡ old.drive) × (new.tapes.out ≡ old.tapes.out)
     × UsageEnds telling.heard.err at old.tapes.err new.tapes.err status
 CallEnds telling (Asks command) old new status =
-    StatusEnds telling (step_of command (present old.drive)) old new status
+    CommandEnds telling command old new status
 
--- At every moment since the start of a call: the disk lies along the rounds of its act; and what
+-- At every moment since the start of a call: the disk lies along the rounds of an act of the
+-- command, or nothing has changed; and what
 -- stands then, and each ground that a crash may leave, is what the command leaves.
 pub record AtEachMoment (command : Command) (old new : Drive) : Type 0 where
-  pub moments : Moments (step_of command (present old)) old new
+  pub moments : (new.history ≡ old.history)
+      ⊎ ((act : Act (Unit {0})) × IsActOf command (present old) act × Moments act old new)
   pub stands : Since (λ d. Leaves command Nothing (present old) d.now) old.history new.history
   pub images : Since (λ d. (x : Ground) → IsImage d x → Leaves command (WasOpen old.history.latest)
       (present old) x) old.history new.history

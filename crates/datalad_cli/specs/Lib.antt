@@ -5,5 +5,6 @@ pub mod Codes
 pub mod Commands
 pub mod Decides
 pub mod Ends
+pub mod Finding
 pub mod Reports
 pub mod Words

@@ -2,6 +2,7 @@
 #![tactic(auto)]
 
 mod ended;
+mod finding;
 mod reporting;
 mod status;
 mod top;

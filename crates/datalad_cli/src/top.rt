@@ -1,22 +1,23 @@
 // The top call: one command, from its words to its two texts and its status.
 ghost use Rattle.std.specs.Prelude.{◌≡◌, [], map, string_bytes, IsTrue};
-ghost use Rattle.acts.specs.All.{Acts};
+ghost use Rattle.acts.specs.All.{Acts, ActsAs};
 ghost use Rattle.datalad_cli.specs.Answer.{call_of};
-ghost use Rattle.datalad_cli.specs.Commands.{Create, step_of, MayAnswer, MaySay, reading};
+ghost use Rattle.datalad_cli.specs.Commands.{Create, Save, creates, command_of, IsActOf, MayAnswer, MaySay, reading};
 ghost use Rattle.datalad_cli.specs.Decides.{WordsDecide};
 ghost use Rattle.datalad_cli.specs.Ends.{CallEnds, CallGoes, telling_of, world_of};
-ghost use Rattle.datalad_cli.specs.Words.{leads};
+ghost use Rattle.datalad_cli.specs.Words.{leads, message_of};
 
+use crate::finding::find_root;
 use crate::reporting::{report, say_usage};
 use crate::status::Status;
-use crate::words::{dir_of, misread_at, root_of};
+use crate::words::{begins_create, dir_of, message_of, message_word, misread_at, root_of};
 use faults::{Fault, Line, Trouble};
 use file_store::{Files, Place, Sink};
-use recursive_save::create;
+use recursive_save::{SaveWish, create, save};
 use std::alloc::Global;
 
 // `create` of a word.
-fn act<F: Files>(
+fn create_at<F: Files>(
     alloc: Global,
     files: &mut F,
     cwd: &Place,
@@ -28,8 +29,8 @@ fn act<F: Files>(
     requires { lines.old.items ≡ [] }
     ensures says { MaySay (Create (leads cwd.now word.now) moment fresh.now) lines.new.items result }
     ensures acts { let command = Create (leads cwd.now word.now) moment fresh.now in Acts (λ fault. MayAnswer
-        F.tells command fault) F.tells (step_of command) lines.old.items lines.new.items
-        (F.drive files.old) (F.drive files.new) result }
+        F.tells command fault) F.tells (creates (leads cwd.now word.now) moment fresh.now) lines.old.items
+        lines.new.items (F.drive files.old) (F.drive files.new) result }
 {
     match root_of(alloc, cwd, word)? {
         None => Err(Trouble::Refused(Fault::BadPath { at: 1 })),
@@ -38,6 +39,49 @@ fn act<F: Files>(
             Ok(())
         }
     }
+}
+
+// `save` with a word for its message.
+fn save_at<F: Files>(
+    alloc: Global,
+    files: &mut F,
+    cwd: &Place,
+    word: &str,
+    moment: u64,
+    lines: &mut Vec<Line>,
+) -> Result<(), Trouble>
+    ensures { let command = Save cwd.now (message_of word.now) moment in ActsAs (λ fault. MayAnswer F.tells
+        command fault) F.tells (λ g act. IsActOf command g act) lines.old.items lines.new.items
+        (F.drive files.old) (F.drive files.new) result }
+{
+    let message = message_of(alloc, word)?;
+    let root = find_root(alloc, files, cwd)?;
+    let wish = SaveWish { message, moment };
+    save(alloc, files, &root, &wish, lines)?;
+    Ok(())
+}
+
+// The command of a call's words.
+fn act<F: Files>(
+    alloc: Global,
+    files: &mut F,
+    words: &[String],
+    cwd: &Place,
+    moment: u64,
+    fresh: &[u8; 16],
+    lines: &mut Vec<Line>,
+) -> Result<(), Trouble>
+    requires { lines.old.items ≡ [] }
+    ensures says { MaySay (command_of (call_of (map string_bytes words.now) cwd.now moment fresh.now))
+        lines.new.items result }
+    ensures acts { let command = command_of (call_of (map string_bytes words.now) cwd.now moment fresh.now) in ActsAs
+        (λ fault. MayAnswer F.tells command fault) F.tells (λ g act. IsActOf command g act) lines.old.items
+        lines.new.items (F.drive files.old) (F.drive files.new) result }
+{
+    if begins_create(words) {
+        return create_at(alloc, files, cwd, dir_of(words), moment, fresh, lines);
+    }
+    save_at(alloc, files, cwd, message_word(words), moment, lines)
 }
 
 /// One call of the program: the words after its name, the working directory, the seconds of the clock since 1970, 16
@@ -64,8 +108,8 @@ pub fn datalad<F: Files, O: Sink, E: Sink>(
         (world_of (F.drive files.old) (O.tape out.old) (E.tape err.old))
         (world_of (F.drive files.new) (O.tape out.new) (E.tape err.new)) result }
 
-    // At every moment, and so after every answer, the disk lies between two neighbours among the grounds that the
-    // rounds of the command's act make of what stood: at each place outside the unfinished writes it has what one of
+    // At every moment, and so after every answer, nothing has changed, or the disk lies between two neighbours among the
+    // grounds that the rounds of an act of the command make of what stood: at each place outside the unfinished writes it has what one of
     // them has there, and a crash leaves that, or what was open there at the start.
     ensures crash { IsTrue F.tells → CallGoes (reading (call_of (map string_bytes words.now) cwd.now moment
         fresh)) (F.drive files.old) (F.drive files.new) }
@@ -74,6 +118,6 @@ pub fn datalad<F: Files, O: Sink, E: Sink>(
         return say_usage(alloc, err, at);
     }
     let mut lines = Vec::new(alloc);
-    let outcome = act(alloc, files, cwd, dir_of(words), moment, &fresh, &mut lines);
+    let outcome = act(alloc, files, words, cwd, moment, &fresh, &mut lines);
     report(alloc, out, err, lines.as_slice(), outcome)
 }

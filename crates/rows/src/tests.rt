@@ -5,4 +5,5 @@ mod create;
 mod devices;
 mod files;
 mod refusals;
+mod saves;
 mod stops;

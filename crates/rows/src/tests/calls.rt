@@ -19,7 +19,7 @@ pub(super) fn place(rt: &impl Abort, alloc: Global, text: &str) -> Place {
 }
 
 // No word where the text is empty.
-fn words_of(rt: &impl Abort, alloc: Global, text: &str) -> Vec<String> {
+pub(super) fn words_of(rt: &impl Abort, alloc: Global, text: &str) -> Vec<String> {
     let mut words = Vec::new(alloc);
     if !text.is_empty() {
         for word in text.split(' ') {
@@ -30,7 +30,7 @@ fn words_of(rt: &impl Abort, alloc: Global, text: &str) -> Vec<String> {
     words
 }
 
-fn code_of(status: Status) -> u8 {
+pub(super) fn code_of(status: Status) -> u8 {
     let code = status.code();
     drop(status);
     code

@@ -1,0 +1,124 @@
+-- Acts of which the value is left out, and calls that act after they have read.
+use Rattle.std.proofs.Common.{◌≡◌, ◌≤◌, inl, inr, Bool, IsTrue, ℕ, List, Option, Some, None, Result, Ok, Err, refl, sym, ap, ◌∙◌, subst, arith}
+use Rattle.places.specs.All.{Names, Ground, IsAtOrAbove}
+use Rattle.file_store.specs.All.{Drive, History, present}
+use Rattle.faults.specs.declared.lines.Line.{Line}
+use Rattle.faults.specs.declared.faults.Fault.{Fault}
+use Rattle.faults.specs.declared.faults.Trouble.{Trouble}
+use Rattle.faults.specs.declared.faults.Fault.TheVariants.{NotADataset}
+use Rattle.faults.specs.declared.faults.Trouble.TheVariants.{Refused, Device, NoMemory}
+use Rattle.git_objects.specs.declared.ids.Id.{Id}
+use Rattle.acts.specs.All.{Act, Ending, Gives, Refuses, Breaks, Acts, ActsAs, EndsRefused, Goes}
+use Rattle.acts.specs.All.{HasCause, IsHalt, Reaches, still}
+use Rattle.acts.proofs.Laws.{after_reading}
+use Rattle.recursive_save.specs.All.{IsSave, MaySave}
+use Rattle.datalad_cli.specs.Commands.{Save, IsActAt, IsActOf, MayAnswer, ending_only}
+use Rattle.datalad_cli.specs.Commands.{without_value}
+use Rattle.datalad_cli.specs.Commands.{wish_of}
+use Rattle.datalad_cli.specs.Finding.{root_at}
+
+-- A CALL AFTER A READING
+more_cause : (V W : Type 0) (may more : Fault → Type 0) → ((fault : Fault) → may fault → more fault) → (d0 d1 d2 : Drive) (t : Trouble) → d0.faults ≤ d1.faults
+    → HasCause {V = V} may d1 d2 (Err t) → HasCause {V = W} more d0 d2 (Err t)
+more_cause V W may more f d0 d1 d2 (Refused fault) up h = f fault h
+more_cause V W may more f d0 d1 d2 Device up h = omega arith
+more_cause V W may more f d0 d1 d2 NoMemory up h = h
+
+late_cause : {V : Type 0} (may : Fault → Type 0) (d0 d1 d2 : Drive) (r : Result V Trouble) → d0.faults ≤ d1.faults → HasCause may d1 d2 r → HasCause may d0 d2 r
+late_cause {V} may d0 d1 d2 (Ok v) up h = h
+late_cause {V} may d0 d1 d2 (Err t) up h = more_cause V V may may (λ fault h. h) d0 d1 d2 t up h
+
+pub as_after : {V : Type 0} {may : Fault → Type 0} {tells : Bool} {IsAct : Ground → Act V → Type 0} {l0 l1 : List Line} {old mid new : Drive} {r : Result V Trouble}
+    → old.faults ≤ mid.faults → (IsTrue tells → mid.history ≡ old.history) → ActsAs may tells IsAct l0 l1 mid new r → ActsAs may tells IsAct l0 l1 old new r
+as_after {V} {may} {tells} {IsAct} {l0} {l1} {old} {mid} {new} {r} up same acts = record {
+  later = omega (arith, acts.later);
+  cause = late_cause may old mid new r up acts.cause;
+  told = λ t. elim (acts.told t) [
+    | inl halt ↦ inl (record { why = halt.why; said = halt.said; kept = halt.kept ∙ same t })
+    | inr one ↦ inr (
+        let here : Acts may tells (λ g. one.0) l0 l1 mid new r = record { later = acts.later; cause = acts.cause; told = λ t. one.2 } in
+        let all : Acts may tells (λ g. one.0) l0 l1 old new r = after_reading up same here in
+        (one.0, subst (λ (g : Ground). IsAct g one.0) (ap (λ (h : History). h.latest.now) (same t)) one.1, all.told t))
+  ];
+}
+
+-- WITHOUT ITS VALUE
+module _ {V : Type 0} (a : Act V) (d0 d1 : Drive) where
+  reaches_only : Reaches a d0 d1 → Reaches (without_value a) d0 d1
+  reaches_only r = record { stands = r.stands; rests = r.rests; kept = r.kept; safe = r.safe }
+
+  refused_only : (e : Ending V) (fault : Fault) → EndsRefused e fault (Reaches a d0 d1) → EndsRefused (ending_only e) fault (Reaches (without_value a) d0 d1)
+  refused_only (Gives v) fault h = absurd h
+  refused_only (Refuses own) fault h = (h.0, reaches_only h.1)
+  refused_only (Breaks own) fault h = h
+
+  module _ (l0 l1 : List Line) where
+    goes_ok : (v : V) → Goes a l0 l1 d0 d1 (Ok v) → Goes (without_value a) l0 l1 d0 d1 (Ok tt)
+    goes_ok v goes = record {
+      ends = record { ending = ap (λ (e : Ending V). ending_only e) goes.ends.ending; said = goes.ends.said; reaches = reaches_only goes.ends.reaches };
+      moments = record { along = goes.moments.along };
+      came = record { done = goes.came.done; rest = goes.came.rest; splits = goes.came.splits; said = goes.came.said; lies = goes.came.lies };
+    }
+
+    goes_err : (t : Trouble) → Goes a l0 l1 d0 d1 (Err t) → Goes (without_value a) l0 l1 d0 d1 (Err t)
+    goes_err (Refused fault) goes = record {
+      ends = record { ending = refused_only a.ending fault goes.ends.ending; said = goes.ends.said };
+      moments = record { along = goes.moments.along };
+      came = record { done = goes.came.done; rest = goes.came.rest; splits = goes.came.splits; said = goes.came.said; lies = goes.came.lies };
+    }
+    goes_err Device goes = record {
+      ends = tt;
+      moments = record { along = goes.moments.along };
+      came = record { done = goes.came.done; rest = goes.came.rest; splits = goes.came.splits; said = goes.came.said; lies = goes.came.lies };
+    }
+    goes_err NoMemory goes = record {
+      ends = tt;
+      moments = record { along = goes.moments.along };
+      came = record { done = goes.came.done; rest = goes.came.rest; splits = goes.came.splits; said = goes.came.said; lies = goes.came.lies };
+    }
+
+-- THE SAVE at the root that was found
+same_halt : (V W : Type 0) (t : Trouble) → IsHalt {V = V} (Err t) → IsHalt {V = W} (Err t)
+same_halt V W (Refused fault) h = absurd h
+same_halt V W Device h = h
+same_halt V W NoMemory h = h
+
+module _ (cwd : Names) (message : List ℕ) (moment : ℕ) (root : Names) (at : IsAtOrAbove root cwd) (tells : Bool) (l0 l1 : List Line) (d0 d1 : Drive)
+    (found : IsTrue tells → root_at cwd (present d0) ≡ Some root) where
+  act_at : (g : Ground) (saved : Act (Option Id)) → root_at cwd g ≡ Some root → IsSave root (wish_of message moment) g saved → IsActOf (Save cwd message moment) g (without_value saved)
+  act_at g saved is one = subst (λ (o : Option Names). IsActAt cwd (wish_of message moment) g o (without_value saved)) (sym is) (saved, one, refl)
+
+  abbrev Saves : Result (Option Id) Trouble → Type 0
+  Saves r = ActsAs (λ fault. MaySave tells root fault) tells (λ g act. IsSave root (wish_of message moment) g act) l0 l1 d0 d1 r
+
+  abbrev Does : Result (Unit {0}) Trouble → Type 0
+  Does r = ActsAs (λ fault. MayAnswer tells (Save cwd message moment) fault) tells (λ g act. IsActOf (Save cwd message moment) g act) l0 l1 d0 d1 r
+
+  pub save_gave : (v : Option Id) → Saves (Ok v) → Does (Ok tt)
+  save_gave v acts = record {
+    later = acts.later;
+    cause = tt;
+    told = λ t. elim (acts.told t) [
+      | inl halt ↦ absurd halt.why
+      | inr one ↦ inr (without_value one.0, act_at (present d0) one.0 (found t) one.1, goes_ok one.0 d0 d1 l0 l1 v one.2)
+    ];
+  }
+
+  pub save_failed : (t : Trouble) → Saves (Err t) → Does (Err t)
+  save_failed e acts = record {
+    later = acts.later;
+    cause = more_cause (Option Id) (Unit {0}) (λ fault. MaySave tells root fault) (λ fault. MayAnswer tells (Save cwd message moment) fault) (λ fault may. inr (root, at, may)) d0 d0 d1 e (omega arith) acts.cause;
+    told = λ t. elim (acts.told t) [
+      | inl halt ↦ inl (record { why = same_halt (Option Id) (Unit {0}) e halt.why; said = halt.said; kept = halt.kept })
+      | inr one ↦ inr (without_value one.0, act_at (present d0) one.0 (found t) one.1, goes_err one.0 d0 d1 l0 l1 e one.2)
+    ];
+  }
+
+-- no root was found
+pub none_found : (cwd : Names) (message : List ℕ) (moment : ℕ) (g : Ground) (fault : Fault) → root_at cwd g ≡ None → fault ≡ NotADataset cwd → IsActOf (Save cwd message moment) g (still (Refuses fault))
+none_found cwd message moment g fault none is =
+    subst (λ (o : Option Names). IsActAt cwd (wish_of message moment) g o (still (Refuses fault))) (sym none) (ap (λ (f : Fault). still (Refuses f)) is)
+
+-- a root that was found is one after a reading too
+pub found_later : (cwd root : Names) (old mid : Drive) → mid.history ≡ old.history → root_at cwd (present old) ≡ Some root → root_at cwd (present mid) ≡ Some root
+found_later cwd root old mid same is = ap (λ (h : History). root_at cwd h.latest.now) same ∙ is

@@ -1,0 +1,83 @@
+// The dataset in which a place lies.
+ghost use Rattle.std.specs.Prelude.{◌≡◌, ◌++◌, ◌∷◌, [], ℕ, List, IfOk, MatchOption, Some, None};
+ghost use Rattle.places.specs.All.{IsAtOrAbove};
+ghost use Rattle.acts.specs.All.{NoFault, Reads};
+ghost use Rattle.faults.specs.declared.faults.Fault.TheVariants.{NotADataset};
+ghost use Rattle.datalad_cli.specs.Finding.{head_within, is_root, root_at};
+
+use faults::{Fault, Trouble};
+use file_store::{Files, Place};
+use std::alloc::{AllocError, Global};
+
+// The longest text of a place, in bytes.
+const PLACE_LIMIT: usize = 4096;
+
+// Where HEAD would stand, None where that is longer than places are.
+#[tactic(auto, unfolding(places::specs::Names::is_path, places::specs::Names::is_name))]
+fn head_within(alloc: Global, root: &Place) -> Result<Option<Place>, AllocError>
+    ensures { IfOk result (λ found. found ≡ head_within root.now) }
+{
+    let head = root.joined(alloc, ".dlrepo/HEAD")?;
+    if PLACE_LIMIT < head.len() {
+        return Ok(None);
+    }
+    Ok(Some(root.below(alloc, ".dlrepo/HEAD")?))
+}
+
+// Whether a dataset has its root there.
+fn is_root<F: Files>(alloc: Global, files: &mut F, place: &Place) -> Result<bool, Trouble>
+    ensures { Reads NoFault F.tells (λ g answer. answer ≡ is_root g place.now) (λ g fault. NoFault fault)
+        (F.drive files.old) (F.drive files.new) result }
+{
+    match head_within(alloc, place)? {
+        None => Ok(false),
+        Some(head) => Ok(files.size(alloc, &head)?.is_some()),
+    }
+}
+
+// The place above.
+fn above(alloc: Global, place: &Place) -> Result<Option<Place>, AllocError>
+    ensures { IfOk result (λ up. MatchOption up (place.now ≡ [])
+        (λ above. (name : List ℕ) × (place.now ≡ above ++ name ∷ []))) }
+{
+    match place.parent(alloc) {
+        Ok(up) => Ok(up),
+        Err(_) => Err(AllocError),
+    }
+}
+
+// The nearest root at or above a place.
+fn root_from<F: Files>(alloc: Global, files: &mut F, place: Place) -> Result<Option<Place>, Trouble>
+    ensures reads { Reads NoFault F.tells (λ g root. root ≡ root_at place g) (λ g fault. NoFault fault)
+        (F.drive files.old) (F.drive files.new) result }
+    ensures above { IfOk result (λ found. MatchOption found (Unit {0}) (λ root. IsAtOrAbove root place)) }
+{
+    if is_root(alloc, files, &place)? {
+        return Ok(Some(place));
+    }
+    match above(alloc, &place)? {
+        None => Ok(None),
+        Some(up) => root_from(alloc, files, up),
+    }
+}
+
+/// The root of the dataset in which a place lies: the nearest place, at or above it, at whose `.dlrepo/HEAD` a file
+/// stands.
+///
+/// Refuses NotADataset of the place where there is none.
+pub(crate) fn find_root<F: Files>(
+    alloc: Global,
+    files: &mut F,
+    cwd: &Place,
+) -> Result<Place, Trouble>
+    ensures reads { Reads (λ fault. fault ≡ NotADataset cwd.now) F.tells (λ g root. root_at cwd.now g ≡ Some root)
+        (λ g fault. (root_at cwd.now g ≡ None) × (fault ≡ NotADataset cwd.now)) (F.drive files.old) (F.drive files.new) result }
+    ensures above { IfOk result (λ root. IsAtOrAbove root cwd.now) }
+{
+    let start = cwd.try_clone(alloc)?;
+    let place = cwd.try_clone(alloc)?;
+    match root_from(alloc, files, start)? {
+        Some(root) => Ok(root),
+        None => Err(Trouble::Refused(Fault::NotADataset { place })),
+    }
+}
