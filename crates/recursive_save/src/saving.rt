@@ -5,6 +5,7 @@
 ghost use Rattle.std.specs.Prelude.{◌≡◌, IfOk, codes};
 ghost use Rattle.repository.specs.All.{repo_of};
 ghost use Rattle.acts.specs.All.{Acts, ActsAs};
+ghost use Rattle.recursive_save.specs.Saved.{AreChangeLines, SaveSays};
 ghost use Rattle.recursive_save.specs.Saving.{dataset_line, IsSave, MaySave, writes};
 ghost use Rattle.recursive_save.specs.Writing.{IsRepo};
 ghost use Rattle.recursive_save.specs.Planned.{plan_of};
@@ -60,7 +61,8 @@ fn write<F: Files>(
     lines: &mut Vec<Line>,
 ) -> Result<Option<Id>, Trouble>
     requires repo { repo.now ≡ repo_of root.now }
-    ensures { Acts (λ fault. MaySave F.tells root.now fault) F.tells (writes root.now (plan_of planned)) lines.old.items
+    ensures says { SaveSays lines.old.items lines.new.items result }
+    ensures acts { Acts (λ fault. MaySave F.tells root.now fault) F.tells (writes root.now (plan_of planned)) lines.old.items
         lines.new.items (F.drive files.old) (F.drive files.new) result }
 {
     let mut more = planned.lines;
@@ -84,7 +86,8 @@ pub fn save<F: Files>(
     wish: &SaveWish,
     lines: &mut Vec<Line>,
 ) -> Result<Option<Id>, Trouble>
-    ensures { ActsAs (λ fault. MaySave F.tells root.now fault) F.tells (λ g act. IsSave root.now wish.now g act)
+    ensures says { SaveSays lines.old.items lines.new.items result }
+    ensures acts { ActsAs (λ fault. MaySave F.tells root.now fault) F.tells (λ g act. IsSave root.now wish.now g act)
         lines.old.items lines.new.items (F.drive files.old) (F.drive files.new) result }
 {
     let repo = repo(alloc, root)?;
