@@ -49,25 +49,25 @@ SaveSays before after (Ok (Some id)) =
 SaveSays before after (Ok None) = after ≡ before ++ dataset_line (codes "notneeded") ∷ []
 SaveSays before after (Err trouble) = after ≡ before
 
--- Of the ground g at the start, x: nothing outside the repository has changed; each place is as it
--- was or as the act leaves it; HEAD and each branch are as they were unless all the rest is as the
--- act leaves it; and what was held is held.
-pub record SaveRemains (root : Names) (act : Act (Option Id)) (Else : Names → Option (List ℕ)
-    → Type 0) (g x : Ground)
+-- Of the ground g at the start, and of the one to which the act comes, x: nothing outside the
+-- repository has changed; each place is as in one of the two; HEAD and each branch are as they were
+-- unless all the rest is as in the other; and what was held is held.
+pub record SaveRemains (root : Names) (end : Ground) (Else : Names → Option (List ℕ) → Type 0)
+    (g x : Ground)
     : Type 0 where
   pub outside : SameOutside (repo_of root) Else g x
-  pub places : OldOrNew Else g (last_of act g) x
+  pub places : OldOrNew Else g end x
   pub tip : (place : Names) → IsTipPlace (repo_of root) place → IsFixed place
-      → NewWithAll Else place g (last_of act g) x
+      → NewWithAll Else place g end x
   pub held : HeldStay Else g x
 
 -- What is left in what stands, and in each ground that a crash may leave, where a place that was
 -- open at the start may have what a crash might have left of it then.
 abbrev pub SaveRemainsAt : Names → Act (Option Id) → Drive → Disk → Type 0
 SaveRemainsAt root act old d =
-    SaveRemains root act Nothing (present old) d.now
+    SaveRemains root (last_of act (present old)) Nothing (present old) d.now
     × ((x : Ground) → IsImage d x
-    → SaveRemains root act (WasOpen old.history.latest) (present old) x)
+    → SaveRemains root (last_of act (present old)) (WasOpen old.history.latest) (present old) x)
 
 -- At every moment of a save that goes along the rounds of its act, this is left.
 abbrev pub SaveKeeps : Type 0
