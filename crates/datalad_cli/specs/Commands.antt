@@ -1,7 +1,7 @@
 -- The commands: what each one does, which faults it may answer, what it says, and what it leaves at
 -- every moment. A command is added by a case of each definition.
-use Rattle.std.specs.Prelude.{◌≡◌, ◌⊎◌, ℕ, Bool, true, false, List, [], ◌∷◌, Option, Some}
-use Rattle.std.specs.Prelude.{None, Result, Ok, Err}
+use Rattle.std.specs.Prelude.{◌≡◌, ◌⊎◌, ℕ, Bool, true, false, List, [], ◌∷◌, ◌++◌, Option, Some}
+use Rattle.std.specs.Prelude.{None, Result, Ok, Err, codes}
 use Rattle.places.specs.All.{Names, Ground, IsAtOrAbove}
 use Rattle.faults.specs.declared.lines.Line.{Line}
 use Rattle.faults.specs.declared.faults.Fault.{Fault}
@@ -10,8 +10,11 @@ use Rattle.faults.specs.declared.faults.Fault.TheVariants.{BadPath, NotADataset}
 use Rattle.acts.specs.All.{Act, Ending, Gives, Refuses, Breaks, Step, still, gives, refuses, bind}
 use Rattle.acts.specs.All.{IsSame}
 use Rattle.git_objects.specs.declared.ids.Id.{Id}
-use Rattle.recursive_save.specs.All.{new_dataset, MayCreate, created_line, create_step}
-use Rattle.recursive_save.specs.All.{CreateRemains, IsSave, MaySave}
+use Rattle.repository.specs.All.{repo_of}
+use Rattle.dataset.specs.All.{NoneCollide}
+use Rattle.recursive_save.specs.All.{new_dataset, new_parts, MayCreate, created_line, create_step}
+use Rattle.recursive_save.specs.All.{CreateRemains, IsSave, MaySave, SaveRemains, AreChangeLines}
+use Rattle.recursive_save.specs.All.{dataset_line, IsSoundRefusal}
 use Rattle.recursive_save.specs.declared.wishes.SaveWish.{SaveWish}
 use Rattle.datalad_cli.specs.Answer.{Call}
 use Rattle.datalad_cli.specs.Finding.{root_at}
@@ -62,6 +65,11 @@ IsActOf (Create dir moment fresh) g act = act ≡ creates dir moment fresh g
 IsActOf (Save cwd message moment) g act =
     IsActAt cwd (wish_of message moment) g (root_at cwd g) act
 
+-- A command has one act at most, at a ground.
+abbrev pub HasOneAct : Command → Ground → Type 0
+HasOneAct command g =
+    (one two : Act (Unit {0})) → IsActOf command g one → IsActOf command g two → one ≡ two
+
 -- The faults that a command may answer, whatever the files tell.
 abbrev pub MayAnswer : Bool → Command → Fault → Type 0
 MayAnswer tells (Create None moment fresh) fault = fault ≡ BadPath 1
@@ -71,23 +79,51 @@ MayAnswer tells (Save cwd message moment) fault =
     (fault ≡ NotADataset cwd)
     ⊎ ((root : Names) × IsAtOrAbove root cwd × MaySave tells root fault)
 
--- The lines that a command says by its ending, whatever the files tell; nothing is said here of
--- those of `save`.
+-- The lines that a save may say when it is done: those of changed files, and then the dataset's; or
+-- that the dataset needs no save.
+abbrev pub AreSaveLines : List Line → Type 0
+AreSaveLines lines =
+    ((changes : List Line) × AreChangeLines changes
+    × (lines ≡ changes ++ dataset_line (codes "ok") ∷ []))
+    ⊎ (lines ≡ dataset_line (codes "notneeded") ∷ [])
+
+-- The lines that a command says by its ending, whatever the files tell.
 abbrev pub MaySay : Command → List Line → Result (Unit {0}) Trouble → Type 0
 MaySay (Create None moment fresh) lines (Ok _) = ⊥
 MaySay (Create None moment fresh) lines (Err trouble) = lines ≡ []
 MaySay (Create (Some root) moment fresh) lines (Ok _) = lines ≡ created_line root ∷ []
 MaySay (Create (Some root) moment fresh) lines (Err trouble) = lines ≡ []
-MaySay (Save cwd message moment) lines outcome = Unit {0}
+MaySay (Save cwd message moment) lines (Ok _) = AreSaveLines lines
+MaySay (Save cwd message moment) lines (Err trouble) = lines ≡ []
+
+-- What a save leaves, by the root of the dataset in which its directory lies: nothing has changed
+-- where there is none.
+abbrev pub LeavesAt : Option Names → Ground → (Names → Option (List ℕ) → Type 0) → Ground → Ground
+    → Type 0
+LeavesAt None end Else g x = IsSame Else g x
+LeavesAt (Some root) end Else g x = SaveRemains root end Else g x
 
 -- What is left of the ground g at the start, however far a command came: x is what stands, or what
--- a crash leaves, and at a place that was open at the start it may be something else. Nothing is
--- said here of `save`.
-abbrev pub Leaves : Command → (Names → Option (List ℕ) → Type 0) → Ground → Ground → Type 0
-Leaves (Create None moment fresh) Else g x = IsSame Else g x
-Leaves (Create (Some root) moment fresh) Else g x =
+-- a crash leaves, `end` the ground to which the command's act comes, and at a place that was open at
+-- the start x may have something else.
+abbrev pub Leaves : Command → Ground → (Names → Option (List ℕ) → Type 0) → Ground → Ground → Type 0
+Leaves (Create None moment fresh) end Else g x = IsSame Else g x
+Leaves (Create (Some root) moment fresh) end Else g x =
     CreateRemains (new_dataset root moment fresh) Else g x
-Leaves (Save cwd message moment) Else g x = Unit {0}
+Leaves (Save cwd message moment) end Else g x = LeavesAt (root_at cwd g) end Else g x
+
+-- What must be so, beside a sound ground, that a command keeps it sound: of a `create`, that no two
+-- of its four objects have one id.
+abbrev pub CanKeep : Command → Type 0
+CanKeep (Create None moment fresh) = Unit {0}
+CanKeep (Create (Some root) moment fresh) =
+    NoneCollide (repo_of root) (new_parts (new_dataset root moment fresh)).objects
+CanKeep (Save cwd message moment) = Unit {0}
+
+-- The faults for which a command may be refused on a sound ground.
+abbrev pub IsSoundFault : Command → Fault → Type 0
+IsSoundFault (Create dir moment fresh) fault = MayAnswer true (Create dir moment fresh) fault
+IsSoundFault (Save cwd message moment) fault = (fault ≡ NotADataset cwd) ⊎ IsSoundRefusal fault
 
 -- What the words of a call ask for: nothing, by the index of the first word that has no reading; or
 -- a command.

@@ -5,9 +5,11 @@ use Rattle.file_store.specs.All.{present}
 use Rattle.places.specs.All.{Ground}
 use Rattle.faults.specs.All.{fault_text}
 use Rattle.acts.specs.All.{Act, Event, Ending, Gives, Refuses, Breaks, rounds_of, lines_of}
-use Rattle.acts.specs.All.{lines_in, IsFirm, Reaches, EndsRefused, Moments, Nothing}
+use Rattle.acts.specs.All.{lines_in, last_of, IsFirm, Reaches, EndsRefused, Moments, Nothing}
+use Rattle.dataset.specs.All.{Sound, IsSettled, StaysSound}
 use Rattle.datalad_cli.specs.Answer.{lines_text}
-use Rattle.datalad_cli.specs.Commands.{Command, IsActOf, Leaves, Reading, Misread, Asks}
+use Rattle.datalad_cli.specs.Commands.{Command, IsActOf, HasOneAct, Leaves, CanKeep, IsSoundFault}
+use Rattle.datalad_cli.specs.Commands.{Reading, Misread, Asks}
 use Rattle.datalad_cli.specs.Reports.{Failure, Heard, Tapes, Says, SaysPart, SomeRose, UsageEnds}
 use Rattle.datalad_cli.specs.Reports.{of_device, of_memory}
 use Rattle.datalad_cli.specs.declared.status.Status.{Status}
@@ -87,13 +89,49 @@ StatusCause old new NoMemory = Unit {0}
 StatusCause old new (Usage at) = ⊥
 StatusCause old new (CommandFailed got) = ⊥
 
--- A command ends as an act of it does; or it was halted before it did or said anything.
+-- At every moment of a command since its start, by an act of it: the disk lies along the act's
+-- rounds; and what stands then, and each ground that a crash may leave, is what the command leaves.
+pub record AtEachMoment (command : Command) (act : Act (Unit {0})) (old new : Drive) : Type 0 where
+  pub along : Moments act old new
+  pub stands : Since (λ d. Leaves command (last_of act (present old)) Nothing (present old) d.now)
+      old.history new.history
+  pub images : Since (λ d. (x : Ground) → IsImage d x → Leaves command (last_of act (present old))
+      (WasOpen old.history.latest) (present old) x) old.history new.history
+
+-- From a sound ground and a settled disk, at every moment what stands and what a crash leaves is
+-- sound, has the heads of one of the act's grounds, and has lost no object; and when the act is done
+-- the ground is sound and the disk settled again.
+abbrev pub KeepsSound : Command → Act (Unit {0}) → Drive → Drive → Type 0
+KeepsSound command act old new =
+    CanKeep command → Sound (present old) → IsSettled old.history.latest → StaysSound act old new
+
+-- From a sound ground a command is refused for nothing that the program itself has left there.
+abbrev pub RefusesSoundly : Command → Ground → Status → Type 0
+RefusesSoundly command g Done = Unit {0}
+RefusesSoundly command g (Refused fault) = Sound g → IsSoundFault command fault
+RefusesSoundly command g Device = Unit {0}
+RefusesSoundly command g NoMemory = Unit {0}
+RefusesSoundly command g (Usage at) = ⊥
+RefusesSoundly command g (CommandFailed got) = ⊥
+
+-- A command went as one of its acts: it ends as the act does, and it goes so at every moment.
+pub record WentAs (heard : Heard) (command : Command) (act : Act (Unit {0})) (old new : World)
+    (status : Status)
+    : Type 0 where
+  pub own : IsActOf command (present old.drive) act
+  pub ends : StatusEnds heard act old new status
+  pub moments : AtEachMoment command act old.drive new.drive
+  pub sound : KeepsSound command act old.drive new.drive
+  pub complete : RefusesSoundly command (present old.drive) status
+
+-- A command went as one of its acts, the only one that it has on the ground at its start; or it was
+-- halted before it did or said anything.
 pub record CommandEnds (telling : Telling) (command : Command) (old new : World) (status : Status)
     : Type 0 where
   pub cause : StatusCause old new status
   pub told : IsTrue telling.files → EndsHalted telling.heard old new status
-      ⊎ ((act : Act (Unit {0})) × IsActOf command (present old.drive) act
-      × StatusEnds telling.heard act old new status)
+      ⊎ ((act : Act (Unit {0})) × WentAs telling.heard command act old new status)
+  pub one : HasOneAct command (present old.drive)
 
 -- Words without a reading touch the second output alone; a command ends as its act does.
 abbrev pub CallEnds : Telling → Reading → World → World → Status → Type 0
@@ -102,18 +140,3 @@ CallEnds telling (Misread at) old new status =
     × UsageEnds telling.heard.err at old.tapes.err new.tapes.err status
 CallEnds telling (Asks command) old new status =
     CommandEnds telling command old new status
-
--- At every moment since the start of a call: the disk lies along the rounds of an act of the
--- command, or nothing has changed; and what
--- stands then, and each ground that a crash may leave, is what the command leaves.
-pub record AtEachMoment (command : Command) (old new : Drive) : Type 0 where
-  pub moments : (new.history ≡ old.history)
-      ⊎ ((act : Act (Unit {0})) × IsActOf command (present old) act × Moments act old new)
-  pub stands : Since (λ d. Leaves command Nothing (present old) d.now) old.history new.history
-  pub images : Since (λ d. (x : Ground) → IsImage d x → Leaves command (WasOpen old.history.latest)
-      (present old) x) old.history new.history
-
--- The same of a call, which changes nothing where its words have no reading.
-abbrev pub CallGoes : Reading → Drive → Drive → Type 0
-CallGoes (Misread at) old new = new ≡ old
-CallGoes (Asks command) old new = AtEachMoment command old new

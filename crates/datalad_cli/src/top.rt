@@ -4,7 +4,7 @@ ghost use Rattle.acts.specs.All.{Acts, ActsAs};
 ghost use Rattle.datalad_cli.specs.Answer.{call_of};
 ghost use Rattle.datalad_cli.specs.Commands.{Create, Save, creates, command_of, IsActOf, MayAnswer, MaySay, reading};
 ghost use Rattle.datalad_cli.specs.Decides.{WordsDecide};
-ghost use Rattle.datalad_cli.specs.Ends.{CallEnds, CallGoes, telling_of, world_of};
+ghost use Rattle.datalad_cli.specs.Ends.{CallEnds, telling_of, world_of};
 ghost use Rattle.datalad_cli.specs.Words.{leads, message_of};
 
 use crate::finding::find_root;
@@ -87,8 +87,11 @@ fn act<F: Files>(
 /// One call of the program: the words after its name, the working directory, the seconds of the clock since 1970, 16
 /// random bytes, the files, and the two outputs.
 ///
-/// Where the files and the outputs tell what they hold, `ends` says exactly what is left, printed and answered; what
-/// depends on the words alone is said by `words` whatever they tell. A device fails only where a count of faults rose.
+/// Where the files and the outputs tell what they hold, `ends` says, by the one act that the words have on the ground at
+/// the start, exactly what is left, printed and answered, and what stands and what a crash leaves at every moment: the
+/// disk lies between two neighbours among the act's grounds; a sound ground stays sound, with the heads of one of them and
+/// no object lost. What depends on the words alone is said by `words` whatever they tell. A device fails only where a
+/// count of faults rose.
 pub fn datalad<F: Files, O: Sink, E: Sink>(
     alloc: Global,
     words: &[String],
@@ -107,12 +110,6 @@ pub fn datalad<F: Files, O: Sink, E: Sink>(
         (reading (call_of (map string_bytes words.now) cwd.now moment fresh))
         (world_of (F.drive files.old) (O.tape out.old) (E.tape err.old))
         (world_of (F.drive files.new) (O.tape out.new) (E.tape err.new)) result }
-
-    // At every moment, and so after every answer, nothing has changed, or the disk lies between two neighbours among the
-    // grounds that the rounds of an act of the command make of what stood: at each place outside the unfinished writes it has what one of
-    // them has there, and a crash leaves that, or what was open there at the start.
-    ensures crash { IsTrue F.tells → CallGoes (reading (call_of (map string_bytes words.now) cwd.now moment
-        fresh)) (F.drive files.old) (F.drive files.new) }
 {
     if let Some(at) = misread_at(words) {
         return say_usage(alloc, err, at);
