@@ -5,5 +5,7 @@ mod create;
 mod devices;
 mod files;
 mod refusals;
+mod save_refusals;
+mod save_stops;
 mod saves;
 mod stops;

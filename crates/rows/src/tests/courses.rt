@@ -65,11 +65,11 @@ pub(super) fn lies_along<'a, 'b>(files: &[File<'a>], course: &[Vec<File<'b>>]) -
 }
 
 // The binary digits of a number, the lowest first.
-fn digits(number: u8) -> [u8; 8] {
-    let mut digits = [0; 8];
+fn digits(number: u16) -> [u8; 10] {
+    let mut digits = [0; 10];
     let mut rest = number;
     for digit in &mut digits {
-        *digit = rest % 2;
+        *digit = u8::from(rest % 2 == 1);
         rest /= 2;
     }
     digits
@@ -86,17 +86,27 @@ fn image_is_along(rt: &impl Abort, alloc: Global, image: &MemFiles, course: &[Ve
     assert!(rt; lies_along(rows.as_slice(), course));
 }
 
-// No more places are open than there are choices.
-fn has_few_open_places(rt: &impl Abort, alloc: Global, files: &MemFiles) {
+// How many places are open, which are no more than there are choices.
+fn open_count(rt: &impl Abort, alloc: Global, files: &MemFiles) -> usize {
     let open = files.open_places(alloc).expect(rt, "memory");
-    assert!(rt; open.len() <= 8);
+    assert!(rt; open.len() <= 10);
+    open.len()
+}
+
+// The greatest number of so many binary digits.
+fn greatest(count: usize) -> u16 {
+    let mut number: u16 = 0;
+    for _ in 0..count {
+        number = number.saturating_mul(2).saturating_add(1);
+    }
+    number
 }
 
 /// Whatever a crash leaves lies along the course, by every choice of what is safe and what stands
-/// for up to eight open places.
+/// for up to ten open places.
 pub(super) fn is_along(rt: &impl Abort, alloc: Global, files: &MemFiles, course: &[Vec<File<'_>>]) {
-    has_few_open_places(rt, alloc, files);
-    for number in 0..=u8::MAX {
+    let last = greatest(open_count(rt, alloc, files));
+    for number in 0..=last {
         let image = image_of(rt, alloc, files, &digits(number));
         image_is_along(rt, alloc, &image, course);
     }

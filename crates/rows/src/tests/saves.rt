@@ -9,7 +9,7 @@ use std::process::Abort;
 const WORDS: &str = "save -m a --to-git";
 
 // A save at 1700000100, from this working directory.
-fn save(
+pub(super) fn save(
     rt: &impl Abort,
     alloc: Global,
     files: &mut MemFiles,

@@ -1,0 +1,167 @@
+// `save` of two files is stopped at each of its calls of the files, and a crash follows. The ids and the objects are
+// those that git makes of the same files.
+use super::courses::is_along;
+use super::create::DATASET;
+use super::devices::numbers;
+use super::files::{File, list_of, memory_of, rows_of};
+use super::saves::save;
+use std::alloc::Global;
+use std::process::Abort;
+
+const TIP: &str = "/w/ds/.dlrepo/refs/heads/main";
+
+// The working files.
+const WORK: [File<'static>; 2] = [
+    File {
+        place: "/w/ds/a",
+        bytes: b"a\n",
+    },
+    File {
+        place: "/w/ds/b/c",
+        bytes: b"c\n",
+    },
+];
+
+// The objects that a save of them makes.
+const OBJECTS: [File<'static>; 5] = [
+    File {
+        place: "/w/ds/.dlrepo/objects/78/981922613b2afb6025042ff6bd878ac1994e85",
+        bytes: b"blob 2\0a\n",
+    },
+    File {
+        place: "/w/ds/.dlrepo/objects/f2/ad6c76f0115a6ba5b00456a849810e7ec0af20",
+        bytes: b"blob 2\0c\n",
+    },
+    File {
+        place: "/w/ds/.dlrepo/objects/19/33da329284aca10dab8dc2fdd54213acd39be5",
+        bytes: b"tree 29\0\
+              100644 c\0\xf2\xad\x6c\x76\xf0\x11\x5a\x6b\xa5\xb0\x04\x56\xa8\x49\x81\x0e\x7e\xc0\xaf\x20",
+    },
+    File {
+        place: "/w/ds/.dlrepo/objects/79/1a3f8adc43fae9148a80c46846fb7e696dffad",
+        bytes: b"tree 92\0\
+              40000 .datalad\0\
+              \xc1\xe5\xd9\xf9\x14\x05\x73\x16\x25\x8a\x74\x78\x34\xda\x83\xc8\xe2\x6e\x38\x94\
+              100644 a\0\x78\x98\x19\x22\x61\x3b\x2a\xfb\x60\x25\x04\x2f\xf6\xbd\x87\x8a\xc1\x99\x4e\x85\
+              40000 b\0\x19\x33\xda\x32\x92\x84\xac\xa1\x0d\xab\x8d\xc2\xfd\xd5\x42\x13\xac\xd3\x9b\xe5",
+    },
+    File {
+        place: "/w/ds/.dlrepo/objects/86/f434388abe1c672e8a4f51743f62204ee1d94e",
+        bytes: b"commit 208\0\
+              tree 791a3f8adc43fae9148a80c46846fb7e696dffad\n\
+              parent 6149941c1fcb7a565aced3bb19722e854a8a15b3\n\
+              author DataLad User <user@localhost> 1700000100 +0000\n\
+              committer DataLad User <user@localhost> 1700000100 +0000\n\
+              \n\
+              a\n",
+    },
+];
+
+const NEW_TIP: File<'static> = File {
+    place: TIP,
+    bytes: b"86f434388abe1c672e8a4f51743f62204ee1d94e\n",
+};
+
+const SAVED: (&str, &str) = (
+    "add(ok): a (file)\nadd(ok): b/c (file)\nsave(ok): . (dataset)\n",
+    "",
+);
+
+const CLEAN: (&str, &str) = ("save(notneeded): . (dataset)\n", "");
+
+const CUT_OFF: (&str, &str) = ("", "datalad: a device failed\n");
+
+fn add(rt: &impl Abort, ground: &mut Vec<File<'static>>, files: &[File<'static>]) {
+    for file in files {
+        ground.push(*file).expect(rt, "memory");
+    }
+}
+
+// The dataset with two new files, but for its tip.
+fn unsaved(rt: &impl Abort, alloc: Global) -> Vec<File<'static>> {
+    let mut ground = Vec::new(alloc);
+    add(rt, &mut ground, &DATASET[..7]);
+    add(rt, &mut ground, &WORK);
+    ground
+}
+
+// What stands before the save, once its objects are put, and after it.
+fn course_of_save(rt: &impl Abort, alloc: Global) -> [Vec<File<'static>>; 3] {
+    let [.., old_tip] = DATASET;
+    let mut before = unsaved(rt, alloc);
+    add(rt, &mut before, &[old_tip]);
+    let mut put = unsaved(rt, alloc);
+    add(rt, &mut put, &[old_tip]);
+    add(rt, &mut put, &OBJECTS);
+    let mut after = unsaved(rt, alloc);
+    add(rt, &mut after, &OBJECTS);
+    add(rt, &mut after, &[NEW_TIP]);
+    [before, put, after]
+}
+
+// A save that is stopped at this call, whatever a crash then leaves.
+fn is_stopped(rt: &impl Abort, alloc: Global, course: &[Vec<File<'_>>], stop: u64) {
+    let mut files = memory_of(rt, alloc, course[0].as_slice());
+    files.stop_at(stop);
+    save(rt, alloc, &mut files, "/w/ds", 4, CUT_OFF);
+    is_along(rt, alloc, &files, course);
+}
+
+#[test]
+fn save_is_stopped(rt: HostRuntime) {
+    let alloc = rt.alloc();
+    let course = course_of_save(&rt, alloc);
+    let mut files = memory_of(&rt, alloc, course[0].as_slice());
+    save(&rt, alloc, &mut files, "/w/ds", 0, SAVED);
+    for stop in 1..=files.calls() {
+        is_stopped(&rt, alloc, &course, stop);
+    }
+}
+
+// A save whose call of this number failed, and another one after it, which does what is left to do.
+fn goes_on(
+    rt: &impl Abort,
+    alloc: Global,
+    course: &[Vec<File<'_>>],
+    before: &[u64],
+    after: &[u64],
+) {
+    let mut files = memory_of(rt, alloc, course[0].as_slice());
+    files.fail_at(numbers(rt, alloc, before), numbers(rt, alloc, after));
+    save(rt, alloc, &mut files, "/w/ds", 4, CUT_OFF);
+    files.fail_at(Vec::new(alloc), Vec::new(alloc));
+    let list = list_of(rt, alloc, &files);
+    let rows = rows_of(rt, alloc, list.as_slice());
+    let texts = if has_tip(rows.as_slice()) {
+        CLEAN
+    } else {
+        SAVED
+    };
+    save(rt, alloc, &mut files, "/w/ds", 0, texts);
+    is_along(rt, alloc, &files, &course[1..]);
+    let list = list_of(rt, alloc, &files);
+    let rows = rows_of(rt, alloc, list.as_slice());
+    assert!(rt; has_tip(rows.as_slice()));
+}
+
+// The new tip stands.
+fn has_tip(files: &[File<'_>]) -> bool {
+    for file in files {
+        if file.place == TIP {
+            return file.bytes == NEW_TIP.bytes;
+        }
+    }
+    false
+}
+
+#[test]
+fn save_is_done_again(rt: HostRuntime) {
+    let alloc = rt.alloc();
+    let course = course_of_save(&rt, alloc);
+    let mut files = memory_of(&rt, alloc, course[0].as_slice());
+    save(&rt, alloc, &mut files, "/w/ds", 0, SAVED);
+    for n in 1..=files.calls() {
+        goes_on(&rt, alloc, &course, &[n], &[]);
+        goes_on(&rt, alloc, &course, &[], &[n]);
+    }
+}
