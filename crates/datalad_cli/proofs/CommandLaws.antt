@@ -1,7 +1,7 @@
 -- A command's act, printed.
-use Rattle.std.proofs.Common.{◌≡◌, inl, inr, ℕ, Bool, List, [], ◌++◌, Result, Ok, Err, refl, sym, ◌∙◌, ap, subst, arith}
+use Rattle.std.proofs.Common.{◌≡◌, inl, inr, ℕ, Bool, IsTrue, List, [], ◌++◌, Result, Ok, Err, refl, sym, ◌∙◌, ap, subst, arith}
 use Rattle.std.proofs.lemmas.List.{take-append-le}
-use Rattle.file_store.specs.All.{Drive, Tape}
+use Rattle.file_store.specs.All.{Drive, Tape, present}
 use Rattle.faults.specs.All.{fault_text}
 use Rattle.faults.specs.declared.lines.Line.{Line}
 use Rattle.faults.specs.declared.faults.Fault.{Fault}
@@ -17,11 +17,11 @@ use Rattle.datalad_cli.specs.Decides.{HasFault, MayEnd, CommandSays}
 use Rattle.datalad_cli.specs.Reports.{Failure, Heard, Tapes, Says, SaysPart, TookPart, ReportEnds}
 use Rattle.datalad_cli.specs.Reports.{of_device, of_memory, outcome_text}
 use Rattle.datalad_cli.specs.Ends.{World, Telling, ending_text, WasCutOff, StatusEnds, EndsHalted}
-use Rattle.datalad_cli.specs.Ends.{StatusCause}
-use Rattle.datalad_cli.specs.Ends.{CommandEnds}
+use Rattle.datalad_cli.specs.Ends.{CommandEnds, RefusesSoundly, StatusCause}
 use Rattle.datalad_cli.specs.declared.status.Status.{Status}
 use Rattle.datalad_cli.specs.declared.status.Status.TheVariants.{Done, Refused, Usage, NoMemory}
 use Rattle.datalad_cli.specs.declared.status.Status.TheVariants.{Device, CommandFailed}
+use Rattle.datalad_cli.proofs.Follows.{Follows}
 
 none_more : (old new : Tape) (b : List ℕ) → TookPart old new [] → TookPart old new b
 none_more old new b took = (
@@ -95,7 +95,8 @@ module _ (heard : Heard) (lines : List Line) (old new : World) (r : Result (Unit
   halt_ends (CommandFailed got) h = h
 
 module _ (telling : Telling) (command : Command) (lines : List Line) (old new : World) (r : Result (Unit {0}) Trouble)
-    (acts : ActsAs (λ fault. MayAnswer telling.files command fault) telling.files (λ g act. IsActOf command g act) [] lines old.drive new.drive r) where
+    (acts : ActsAs (λ fault. MayAnswer telling.files command fault) telling.files (λ g act. IsActOf command g act) [] lines old.drive new.drive r)
+    (follows : Follows command old.drive new.drive) where
   cause_of : (s : Status) → ReportEnds telling.heard lines r old.tapes new.tapes s → StatusCause old new s
   cause_of Done h = tt
   cause_of (Refused fault) h = tt
@@ -105,14 +106,37 @@ module _ (telling : Telling) (command : Command) (lines : List Line) (old new : 
   cause_of (Usage at) h = h
   cause_of (CommandFailed got) h = h
 
+  -- a refusal that was printed is one of the act
+  soundly : IsTrue telling.files → (act : Act (Unit {0})) → IsActOf command (present old.drive) act → EndsAs act [] lines old.drive new.drive r
+      → (s : Status) → ReportEnds telling.heard lines r old.tapes new.tapes s → RefusesSoundly command (present old.drive) s
+  soundly t act own ends Done h = tt
+  soundly t act own ends (Refused fault) (is, says) = λ sound.
+      let was = subst (λ (r : Result (Unit {0}) Trouble). EndsAs act [] lines old.drive new.drive r) is ends in
+      let may = subst (λ (r : Result (Unit {0}) Trouble). HasCause (λ fault. MayAnswer telling.files command fault) old.drive new.drive r) is acts.cause in
+      follows.refused act fault (Reaches act old.drive new.drive) own was.ending (subst (λ (b : Bool). MayAnswer b command fault) t may) sound
+  soundly t act own ends Device h = tt
+  soundly t act own ends NoMemory h = tt
+  soundly t act own ends (Usage at) h = h
+  soundly t act own ends (CommandFailed got) h = h
+
   -- ONE LAW for all commands
   pub prints : (s : Status) → ReportEnds telling.heard lines r old.tapes new.tapes s → CommandEnds telling command old new s
   prints s report = record {
     cause = cause_of s report;
     told = λ t. elim (acts.told t) [
       | inl halt ↦ inl (halt_ends telling.heard lines old new r halt s report)
-      | inr one ↦ inr (one.0, one.1, act_ends telling.heard one.0 lines old new r one.2.ends one.2.came s report)
+      | inr one ↦ inr (
+          one.0,
+          record {
+            own = one.1;
+            ends = act_ends telling.heard one.0 lines old new r one.2.ends one.2.came s report;
+            moments = follows.leaves one.0 one.1 one.2.moments;
+            sound = follows.sound one.0 one.1;
+            complete = soundly t one.0 one.1 one.2.ends s report;
+          },
+        )
     ];
+    one = follows.one;
   }
 
 -- the faults of an outcome

@@ -1,9 +1,12 @@
 -- Lemmas that several answers share.
 pub mod Acting
 pub mod CommandLaws
+pub mod Cuts
+pub mod Follows
 pub mod Kept
 pub mod Leads
 pub mod Nearest
 pub mod Printed
 pub mod Roots
+pub mod Soundly
 pub mod Upwards

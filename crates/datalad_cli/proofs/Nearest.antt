@@ -1,12 +1,13 @@
 -- The root of the dataset in which a place lies, place by place upwards.
-use Rattle.std.proofs.Common.{◌≡◌, ◌<◌, ◌≤◌, ◌++◌, ◌∷◌, [], ℕ, true, false, List, Some, None, length, sym, ap, ◌∙◌, subst, reverse, arith, append_assoc, if◌then◌else◌}
+use Rattle.std.proofs.Common.{◌≡◌, ◌<◌, ◌≤◌, ◌++◌, ◌∷◌, [], ℕ, Bool, true, false, List, Option, Some, None, length, refl, sym, ap, ◌∙◌, subst, reverse, arith, append_assoc, if◌then◌else◌}
 use Rattle.std.specs.Prelude.{nat_lt, codes}
+use Rattle.std.proofs.lemmas.Bool.{false≢true}
 use Rattle.std.proofs.lemmas.Bool.Decides.{nat_tests}
 use Rattle.std.proofs.lemmas.List.{reverse-append, reverse-reverse}
-use Rattle.places.specs.All.{Names, Ground, IsAtOrAbove, joined, longest, pieces, text_of}
+use Rattle.places.specs.All.{Names, Ground, IsAtOrAbove, joined, longest, pieces, stands, text_of}
 use Rattle.places.proofs.Cuts.{below_text}
 use Rattle.repository.specs.All.{dlrepo, head_place}
-use Rattle.datalad_cli.specs.Finding.{head_within, is_root, root_up, root_at}
+use Rattle.datalad_cli.specs.Finding.{head_within, is_root, root_up, root_at, stands_within}
 
 -- THE PLACE of HEAD
 pub head_text : (root : Names) → joined root (codes ".dlrepo/HEAD") ≡ text_of (head_place root)
@@ -58,3 +59,22 @@ upwards g place above name is h =
 -- a place at or above the one above is at or above the place
 pub higher : (root above place : Names) (name : List ℕ) → place ≡ above ++ name ∷ [] → IsAtOrAbove root above → IsAtOrAbove root place
 higher root above place name is at = (at.0 ++ name ∷ [], is ∙ ap (λ (p : Names). p ++ name ∷ []) at.1 ∙ append_assoc root at.0 (name ∷ []))
+
+-- AT A ROOT that was found HEAD stands
+within_stands : (g : Ground) (root : Names) (long : Bool) → stands_within g (if long then None else Some (head_place root)) ≡ true → stands g (head_place root) ≡ true
+within_stands g root true e = absurd (false≢true e)
+within_stands g root false e = e
+
+if_root : (g : Ground) (p root : Names) (rest : Option Names) → (rest ≡ Some root → is_root g root ≡ true) → (b : Bool) → is_root g p ≡ b → (if b then Some p else rest) ≡ Some root → is_root g root ≡ true
+if_root g p root rest more true is e =
+    let same : p ≡ root = cc e in
+    subst (λ (q : Names). is_root g q ≡ true) same is
+if_root g p root rest more false is e = more e
+
+found_up : (g : Ground) (names root : Names) → root_up names g ≡ Some root → is_root g root ≡ true
+found_up g [] root e = if_root g [] root None (λ none. absurd (cc none)) (is_root g []) refl e
+found_up g (name ∷ above) root e = if_root g (reverse (name ∷ above)) root (root_up above g) (λ more. found_up g above root more) (is_root g (reverse (name ∷ above))) refl e
+
+pub head_stands : (g : Ground) (place root : Names) → root_at place g ≡ Some root → stands g (head_place root) ≡ true
+unfolding root_at
+head_stands g place root e = within_stands g root (nat_lt longest (length (text_of (head_place root)))) (found_up g (reverse place) root e)

@@ -1,6 +1,7 @@
 // The top call: one command, from its words to its two texts and its status.
 ghost use Rattle.std.specs.Prelude.{◌≡◌, [], map, string_bytes, IsTrue};
 ghost use Rattle.acts.specs.All.{Acts, ActsAs};
+ghost use Rattle.recursive_save.specs.All.{CreateKeepsSound, SaveIsComplete, SaveIsOne, SaveKeeps, SaveKeepsSound};
 ghost use Rattle.datalad_cli.specs.Answer.{call_of};
 ghost use Rattle.datalad_cli.specs.Commands.{Create, Save, creates, command_of, IsActOf, MayAnswer, MaySay, reading};
 ghost use Rattle.datalad_cli.specs.Decides.{WordsDecide};
@@ -13,7 +14,8 @@ use crate::status::Status;
 use crate::words::{begins_create, dir_of, message_of, message_word, misread_at, root_of};
 use faults::{Fault, Line, Trouble};
 use file_store::{Files, Place, Sink};
-use recursive_save::{SaveWish, create, save};
+use recursive_save::{SaveWish, create, create_keeps_sound, save, save_is_complete};
+use recursive_save::{save_is_one, save_keeps_sound, save_remains};
 use std::alloc::Global;
 
 // `create` of a word.
@@ -50,7 +52,9 @@ fn save_at<F: Files>(
     moment: u64,
     lines: &mut Vec<Line>,
 ) -> Result<(), Trouble>
-    ensures { let command = Save cwd.now (message_of word.now) moment in ActsAs (λ fault. MayAnswer F.tells
+    requires { lines.old.items ≡ [] }
+    ensures says { MaySay (Save cwd.now (message_of word.now) moment) lines.new.items result }
+    ensures acts { let command = Save cwd.now (message_of word.now) moment in ActsAs (λ fault. MayAnswer F.tells
         command fault) F.tells (λ g act. IsActOf command g act) lines.old.items lines.new.items
         (F.drive files.old) (F.drive files.new) result }
 {
@@ -84,6 +88,21 @@ fn act<F: Files>(
     save_at(alloc, files, cwd, message_word(words), moment, lines)
 }
 
+// What follows of the commands' acts, as laws of their definitions.
+fn laws(alloc: Global)
+    ensures made { CreateKeepsSound }
+    ensures kept { SaveKeepsSound }
+    ensures remains { SaveKeeps }
+    ensures complete { SaveIsComplete }
+    ensures single { SaveIsOne }
+{
+    create_keeps_sound(alloc);
+    save_keeps_sound();
+    save_remains();
+    save_is_complete();
+    save_is_one();
+}
+
 /// One call of the program: the words after its name, the working directory, the seconds of the clock since 1970, 16
 /// random bytes, the files, and the two outputs.
 ///
@@ -114,6 +133,7 @@ pub fn datalad<F: Files, O: Sink, E: Sink>(
     if let Some(at) = misread_at(words) {
         return say_usage(alloc, err, at);
     }
+    laws(alloc);
     let mut lines = Vec::new(alloc);
     let outcome = act(alloc, files, words, cwd, moment, &fresh, &mut lines);
     report(alloc, out, err, lines.as_slice(), outcome)

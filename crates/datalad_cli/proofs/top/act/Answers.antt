@@ -29,7 +29,8 @@ returns-then-begins_create-clause-acts g c =
 pub returns-clause-says : goal.returns-clause-says
 returns-clause-says g c =
     let call = call_of (map string_bytes c.args.words.now) c.args.cwd.now c.args.moment c.args.fresh.now in
-    subst (λ (b : Bool). MaySay (command_by call b) c.save_at.new.lines.items c.save_at.result) (sym (sym c.begins_create.ensures ∙ c.if-begins_create.false)) tt
+    subst (λ (b : Bool). MaySay (command_by call b) c.save_at.new.lines.items c.save_at.result) (sym (sym c.begins_create.ensures ∙ c.if-begins_create.false))
+    (subst (λ (w : List ℕ). MaySay (Save c.args.cwd.now (message_of w) c.args.moment) c.save_at.new.lines.items c.save_at.result) c.message_word.ensures c.save_at.ensures.says)
 
 pub returns-clause-acts : goal.returns-clause-acts
 returns-clause-acts g c =
@@ -40,4 +41,4 @@ returns-clause-acts g c =
     let moment = c.args.moment in
     subst (λ (b : Bool). ActsAs (λ fault. MayAnswer t (command_by call b) fault) t (λ g act. IsActOf (command_by call b) g act) c.args.lines.now.items c.save_at.new.lines.items (d c.args.files.now) (d c.save_at.new.files) c.save_at.result)
     (sym (sym c.begins_create.ensures ∙ c.if-begins_create.false))
-    (subst (λ (w : List ℕ). ActsAs (λ fault. MayAnswer t (Save cwd (message_of w) moment) fault) t (λ g act. IsActOf (Save cwd (message_of w) moment) g act) c.args.lines.now.items c.save_at.new.lines.items (d c.args.files.now) (d c.save_at.new.files) c.save_at.result) c.message_word.ensures c.save_at.ensures)
+    (subst (λ (w : List ℕ). ActsAs (λ fault. MayAnswer t (Save cwd (message_of w) moment) fault) t (λ g act. IsActOf (Save cwd (message_of w) moment) g act) c.args.lines.now.items c.save_at.new.lines.items (d c.args.files.now) (d c.save_at.new.files) c.save_at.result) c.message_word.ensures c.save_at.ensures.acts)

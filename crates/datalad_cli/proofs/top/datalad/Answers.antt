@@ -1,13 +1,13 @@
-use Rattle.std.proofs.Common.{◌∙◌, refl, sym, ap, subst, List, map, string_bytes}
+use Rattle.std.proofs.Common.{◌∙◌, refl, sym, ap, subst, List, map, string_bytes, arith}
 use Rattle.faults.specs.declared.lines.Line.{Line}
 use Rattle.acts.specs.All.{ActsAs}
 use Rattle.datalad_cli.specs.Answer.{call_of}
 use Rattle.datalad_cli.specs.Commands.{IsActOf, MayAnswer, Reading, command_of, form_reading}
 use Rattle.datalad_cli.specs.Decides.{MayEnd, WordsDecide}
-use Rattle.datalad_cli.specs.Ends.{CallEnds, CallGoes, telling_of, world_of}
+use Rattle.datalad_cli.specs.Ends.{CallEnds, telling_of, world_of}
 use Rattle.datalad_cli.specs.Reports.{ReportEnds}
 use Rattle.datalad_cli.proofs.CommandLaws.{prints, fault_of, command_says}
-use Rattle.datalad_cli.proofs.Kept.{of_command}
+use Rattle.datalad_cli.proofs.Follows.{follows}
 use Rattle.datalad_cli.proofs.top.datalad.Goals as goal
 
 -- WORDS WITHOUT A READING
@@ -29,12 +29,6 @@ returns-in-Some-clause-words g c =
     subst (λ (r : Reading). WordsDecide t r (world_of d o (g.E.Sink.tape c.args.err.now)) (world_of d o (g.E.Sink.tape c.say_usage.new.sink)) c.say_usage.result)
     (sym (ap (form_reading call) (sym c.misread_at.ensures ∙ c.in-Some.is))) tt
 
-pub returns-in-Some-clause-crash : goal.returns-in-Some-clause-crash
-returns-in-Some-clause-crash g c = λ told.
-    let call = call_of (map string_bytes c.args.words.now) c.args.cwd.now c.args.moment c.args.fresh in
-    let d = g.F.Files.drive c.args.files.now in
-    subst (λ (r : Reading). CallGoes r d d) (sym (ap (form_reading call) (sym c.misread_at.ensures ∙ c.in-Some.is))) refl
-
 -- A COMMAND
 pub returns-clause-ends : goal.returns-clause-ends
 returns-clause-ends g c =
@@ -46,6 +40,7 @@ returns-clause-ends g c =
     subst (λ (r : Reading). CallEnds t r old new c.report.result) (sym (ap (form_reading call) (sym c.misread_at.ensures ∙ c.in_default.is)))
     (prints t (command_of call) lines old new c.act-outcome.result
     (subst (λ (l : List Line). ActsAs (λ fault. MayAnswer t.files (command_of call) fault) t.files (λ g act. IsActOf (command_of call) g act) l lines old.drive new.drive c.act-outcome.result) c.new-lines.ensures.items c.act-outcome.ensures.acts)
+    (follows c.laws.ensures.made c.laws.ensures.kept c.laws.ensures.remains c.laws.ensures.complete c.laws.ensures.single call (omega arith) old.drive new.drive)
     c.report.result
     (subst (λ (ls : List Line). ReportEnds t.heard ls c.act-outcome.result old.tapes new.tapes c.report.result) c.as_slice.ensures.value c.report.ensures.ends))
 
@@ -61,11 +56,3 @@ returns-clause-words g c =
     subst (λ (r : Reading). WordsDecide t r old new c.report.result) (sym (ap (form_reading call) (sym c.misread_at.ensures ∙ c.in_default.is)))
     (command_says t (command_of call) old new lines c.act-outcome.result c.report.result may
     (subst (λ (ls : List Line). ReportEnds t.heard ls c.act-outcome.result old.tapes new.tapes c.report.result) c.as_slice.ensures.value c.report.ensures.ends))
-
-pub returns-clause-crash : goal.returns-clause-crash
-returns-clause-crash g c = λ told.
-    let call = call_of (map string_bytes c.args.words.now) c.args.cwd.now c.args.moment c.args.fresh in
-    let start = g.F.Files.drive c.args.files.now in
-    let after = g.F.Files.drive c.act-outcome.new.files in
-    subst (λ (r : Reading). CallGoes r start after) (sym (ap (form_reading call) (sym c.misread_at.ensures ∙ c.in_default.is)))
-    (of_command call start after (c.act-outcome.ensures.acts.told told))
