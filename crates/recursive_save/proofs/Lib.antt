@@ -22,6 +22,7 @@ pub mod PathOrder
 pub mod Persons
 pub mod PlanFacts
 pub mod Readings
+pub mod SaidLines
 pub mod SaveKeeps
 pub mod Saves
 pub mod Standing
