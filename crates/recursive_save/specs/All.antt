@@ -28,7 +28,8 @@ pub use Rattle.recursive_save.specs.Planned.{HasWork, IsCommitOn, IsPlanRefusal,
 pub use Rattle.recursive_save.specs.Planned.{IsPlannedOf, MayPlan, PlanFails, plan_of}
 pub use Rattle.recursive_save.specs.Plans.{IsPlan, parts_of}
 pub use Rattle.recursive_save.specs.Remains.{CreateRemains, HeldStay, SameOutside}
-pub use Rattle.recursive_save.specs.Saved.{AreChangeLines, IsChangeLine, IsSoundEnding, IsSoundRefusal}
+pub use Rattle.recursive_save.specs.Saved.{AreChangeLines, AreSaveLines, IsChangeLine}
+pub use Rattle.recursive_save.specs.Saved.{IsSoundEnding, IsSoundRefusal}
 pub use Rattle.recursive_save.specs.Saved.{SaveIsComplete, SaveIsOne, SaveKeeps, SaveRemains}
 pub use Rattle.recursive_save.specs.Saved.{SaveRemainsAt, SaveSays}
 pub use Rattle.recursive_save.specs.Saving.{IsRead, IsSave, IsSavePlan, IsUnread, MaySave, SavePlan}

@@ -40,6 +40,12 @@ abbrev pub AreChangeLines : List Line → Type 0
 AreChangeLines [] = Unit {0}
 AreChangeLines (line ∷ lines) = IsChangeLine line × AreChangeLines lines
 
+-- The lines of a save that makes a commit: those of changed files, and then that of the dataset.
+abbrev pub AreSaveLines : List Line → Type 0
+AreSaveLines lines =
+    (changes : List Line) × AreChangeLines changes
+    × (lines ≡ changes ++ dataset_line (codes "ok") ∷ [])
+
 -- The lines that a save says, whatever the files tell: those of changed files, and then that of the
 -- dataset; that the dataset needs no save; none where it is refused or fails.
 abbrev pub SaveSays : List Line → List Line → Result (Option Id) Trouble → Type 0
