@@ -1,5 +1,5 @@
 -- Acts of which the value is left out, and calls that act after they have read.
-use Rattle.std.proofs.Common.{◌≡◌, ◌≤◌, inl, inr, Bool, IsTrue, ℕ, List, [], ◌∷◌, ◌++◌, codes, Option, Some, None, Result, Ok, Err, refl, sym, ap, ◌∙◌, subst, arith}
+use Rattle.std.proofs.Common.{◌≡◌, ◌≤◌, ◌⊎◌, inl, inr, Bool, IsTrue, ℕ, List, [], ◌∷◌, ◌++◌, codes, Option, Some, None, Result, Ok, Err, refl, sym, ap, ◌∙◌, subst, arith}
 use Rattle.places.specs.All.{Names, Ground, IsAtOrAbove}
 use Rattle.file_store.specs.All.{Drive, History, present}
 use Rattle.faults.specs.declared.lines.Line.{Line}
@@ -11,8 +11,8 @@ use Rattle.git_objects.specs.declared.ids.Id.{Id}
 use Rattle.acts.specs.All.{Act, Ending, Gives, Refuses, Breaks, Acts, ActsAs, EndsRefused, Goes}
 use Rattle.acts.specs.All.{HasCause, IsHalt, Reaches, still}
 use Rattle.acts.proofs.Laws.{after_reading}
-use Rattle.recursive_save.specs.All.{IsSave, MaySave, SaveSays, dataset_line}
-use Rattle.datalad_cli.specs.Commands.{AreSaveLines, Save, IsActAt, IsActOf, MayAnswer, ending_only}
+use Rattle.recursive_save.specs.All.{AreSaveLines, IsSave, MaySave, SaveSays, dataset_line}
+use Rattle.datalad_cli.specs.Commands.{Save, IsActAt, IsActOf, MayAnswer, ending_only}
 use Rattle.datalad_cli.specs.Commands.{without_value}
 use Rattle.datalad_cli.specs.Commands.{wish_of}
 use Rattle.datalad_cli.specs.Finding.{root_at}
@@ -124,6 +124,6 @@ pub found_later : (cwd root : Names) (old mid : Drive) → mid.history ≡ old.h
 found_later cwd root old mid same is = ap (λ (h : History). root_at cwd h.latest.now) same ∙ is
 
 -- the lines of a save, after none
-pub save_lines : (before after : List Line) (v : Option Id) → before ≡ [] → SaveSays before after (Ok v) → AreSaveLines after
+pub save_lines : (before after : List Line) (v : Option Id) → before ≡ [] → SaveSays before after (Ok v) → AreSaveLines after ⊎ (after ≡ dataset_line (codes "notneeded") ∷ [])
 save_lines before after None none says = inr (says ∙ ap (λ (l : List Line). l ++ dataset_line (codes "notneeded") ∷ []) none)
 save_lines before after (Some id) none says = inl (says.0, says.1, says.2 ∙ ap (λ (l : List Line). l ++ says.0 ++ dataset_line (codes "ok") ∷ []) none)

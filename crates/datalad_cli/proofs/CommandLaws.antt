@@ -113,7 +113,7 @@ module _ (telling : Telling) (command : Command) (lines : List Line) (old new : 
   soundly t act own ends (Refused fault) (is, says) = λ sound.
       let was = subst (λ (r : Result (Unit {0}) Trouble). EndsAs act [] lines old.drive new.drive r) is ends in
       let may = subst (λ (r : Result (Unit {0}) Trouble). HasCause (λ fault. MayAnswer telling.files command fault) old.drive new.drive r) is acts.cause in
-      follows.refused act fault (Reaches act old.drive new.drive) own was.ending (subst (λ (b : Bool). MayAnswer b command fault) t may) sound
+      follows.refused act fault own was.ending (subst (λ (b : Bool). MayAnswer b command fault) t may) sound
   soundly t act own ends Device h = tt
   soundly t act own ends NoMemory h = tt
   soundly t act own ends (Usage at) h = h

@@ -3,11 +3,11 @@ pub use Rattle.datalad_cli.specs.Answer.{Call, call_of, device_text, lines_text,
 pub use Rattle.datalad_cli.specs.Answer.{usage_text}
 pub use Rattle.datalad_cli.specs.Answered.{Answered}
 pub use Rattle.datalad_cli.specs.Codes.{code_of}
-pub use Rattle.datalad_cli.specs.Commands.{AreSaveLines, Asks, CanKeep, Command, Create}
+pub use Rattle.datalad_cli.specs.Commands.{Asks, CanKeep, Command, Create}
 pub use Rattle.datalad_cli.specs.Commands.{HasOneAct, IsActAt, IsActOf, IsSoundFault, Leaves}
-pub use Rattle.datalad_cli.specs.Commands.{LeavesAt, MayAnswer, MaySay, Misread, Reading, Save, command_by}
-pub use Rattle.datalad_cli.specs.Commands.{command_of, creates, ending_only, form_reading, reading}
-pub use Rattle.datalad_cli.specs.Commands.{wish_of, without_value}
+pub use Rattle.datalad_cli.specs.Commands.{LeavesAt, MayAnswer, MaySay, Misread, Reading, Save}
+pub use Rattle.datalad_cli.specs.Commands.{command_by, command_of, creates, ending_only}
+pub use Rattle.datalad_cli.specs.Commands.{form_reading, reading, wish_of, without_value}
 pub use Rattle.datalad_cli.specs.Decides.{CommandSays, EndsCutOff, EndsSaying, HasFault, MayEnd}
 pub use Rattle.datalad_cli.specs.Decides.{WordsDecide}
 pub use Rattle.datalad_cli.specs.Ends.{AtEachMoment, CallEnds, CommandEnds, EndsHalted, KeepsSound}

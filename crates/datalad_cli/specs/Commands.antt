@@ -1,6 +1,6 @@
 -- The commands: what each one does, which faults it may answer, what it says, and what it leaves at
 -- every moment. A command is added by a case of each definition.
-use Rattle.std.specs.Prelude.{◌≡◌, ◌⊎◌, ℕ, Bool, true, false, List, [], ◌∷◌, ◌++◌, Option, Some}
+use Rattle.std.specs.Prelude.{◌≡◌, ◌⊎◌, ℕ, Bool, true, false, List, [], ◌∷◌, Option, Some}
 use Rattle.std.specs.Prelude.{None, Result, Ok, Err, codes}
 use Rattle.places.specs.All.{Names, Ground, IsAtOrAbove}
 use Rattle.faults.specs.declared.lines.Line.{Line}
@@ -13,7 +13,7 @@ use Rattle.git_objects.specs.declared.ids.Id.{Id}
 use Rattle.repository.specs.All.{repo_of}
 use Rattle.dataset.specs.All.{NoneCollide}
 use Rattle.recursive_save.specs.All.{new_dataset, new_parts, MayCreate, created_line, create_step}
-use Rattle.recursive_save.specs.All.{CreateRemains, IsSave, MaySave, SaveRemains, AreChangeLines}
+use Rattle.recursive_save.specs.All.{CreateRemains, IsSave, MaySave, SaveRemains, AreSaveLines}
 use Rattle.recursive_save.specs.All.{dataset_line, IsSoundRefusal}
 use Rattle.recursive_save.specs.declared.wishes.SaveWish.{SaveWish}
 use Rattle.datalad_cli.specs.Answer.{Call}
@@ -79,21 +79,15 @@ MayAnswer tells (Save cwd message moment) fault =
     (fault ≡ NotADataset cwd)
     ⊎ ((root : Names) × IsAtOrAbove root cwd × MaySave tells root fault)
 
--- The lines that a save may say when it is done: those of changed files, and then the dataset's; or
--- that the dataset needs no save.
-abbrev pub AreSaveLines : List Line → Type 0
-AreSaveLines lines =
-    ((changes : List Line) × AreChangeLines changes
-    × (lines ≡ changes ++ dataset_line (codes "ok") ∷ []))
-    ⊎ (lines ≡ dataset_line (codes "notneeded") ∷ [])
-
--- The lines that a command says by its ending, whatever the files tell.
+-- The lines that a command says by its ending, whatever the files tell: a save that is done says
+-- those of its commit, or that the dataset needs no save.
 abbrev pub MaySay : Command → List Line → Result (Unit {0}) Trouble → Type 0
 MaySay (Create None moment fresh) lines (Ok _) = ⊥
 MaySay (Create None moment fresh) lines (Err trouble) = lines ≡ []
 MaySay (Create (Some root) moment fresh) lines (Ok _) = lines ≡ created_line root ∷ []
 MaySay (Create (Some root) moment fresh) lines (Err trouble) = lines ≡ []
-MaySay (Save cwd message moment) lines (Ok _) = AreSaveLines lines
+MaySay (Save cwd message moment) lines (Ok _) =
+    AreSaveLines lines ⊎ (lines ≡ dataset_line (codes "notneeded") ∷ [])
 MaySay (Save cwd message moment) lines (Err trouble) = lines ≡ []
 
 -- What a save leaves, by the root of the dataset in which its directory lies: nothing has changed
@@ -104,8 +98,8 @@ LeavesAt None end Else g x = IsSame Else g x
 LeavesAt (Some root) end Else g x = SaveRemains root end Else g x
 
 -- What is left of the ground g at the start, however far a command came: x is what stands, or what
--- a crash leaves, `end` the ground to which the command's act comes, and at a place that was open at
--- the start x may have something else.
+-- a crash leaves, `end` the ground to which the command's act comes, and at a place that was open
+-- at the start x may have something else.
 abbrev pub Leaves : Command → Ground → (Names → Option (List ℕ) → Type 0) → Ground → Ground → Type 0
 Leaves (Create None moment fresh) end Else g x = IsSame Else g x
 Leaves (Create (Some root) moment fresh) end Else g x =
