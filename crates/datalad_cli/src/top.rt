@@ -88,7 +88,8 @@ fn act<F: Files>(
 /// random bytes, the files, and the two outputs.
 ///
 /// Where the files and the outputs tell what they hold, `ends` says exactly what is left, printed and answered; what
-/// depends on the words alone is said by `words` whatever they tell. A device fails only where a count of faults rose.
+/// depends on the words alone is said by `words` whatever they tell. A device fails only where a count of faults rose,
+/// and Done, Refused and Usage come only where none did.
 pub fn datalad<F: Files, O: Sink, E: Sink>(
     alloc: Global,
     words: &[String],

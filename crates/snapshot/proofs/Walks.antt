@@ -37,12 +37,12 @@ module _ (tells : Bool) (repo : Names) (path : List ℕ) (e : TreeEntry) (list a
   abbrev pub Entries : Result (Unit {0}) Trouble → Type 0
   Entries r = EntryReads tells repo path e list after n m old new r
 
-  pub entry_many : (fault : Fault) → old.faults ≤ new.faults → n ≡ item_limit → fault ≡ too_many → (IsTrue tells → new.history ≡ old.history) → Entries (Err (Refused fault))
-  entry_many fault up full is same = read_refuses (subst (λ (z : Fault). MayWalk repo z) (sym is) (inr (inr (refl, refl)))) up (λ t. (same t, inl (full, is)))
+  pub entry_many : (fault : Fault) → new.faults ≡ old.faults → n ≡ item_limit → fault ≡ too_many → (IsTrue tells → new.history ≡ old.history) → Entries (Err (Refused fault))
+  entry_many fault stood full is same = read_refuses (subst (λ (z : Fault). MayWalk repo z) (sym is) (inr (inr (refl, refl)))) stood (λ t. (same t, inl (full, is)))
 
-  pub entry_long : (fault : Fault) (size : ℕ) → old.faults ≤ new.faults → n < item_limit → longest < size → size ≡ length (path ++ e.name) → fault ≡ TooLarge (told_path path) size → (IsTrue tells → new.history ≡ old.history) → Entries (Err (Refused fault))
-  entry_long fault size up room large long is same =
-      read_refuses (subst (λ (z : Fault). MayWalk repo z) (sym is) (inr (inl large))) up (λ t. (same t, inr (inl (room, subst (λ (z : ℕ). longest < z) long large, is ∙ ap (λ (z : ℕ). TooLarge (told_path path) z) long))))
+  pub entry_long : (fault : Fault) (size : ℕ) → new.faults ≡ old.faults → n < item_limit → longest < size → size ≡ length (path ++ e.name) → fault ≡ TooLarge (told_path path) size → (IsTrue tells → new.history ≡ old.history) → Entries (Err (Refused fault))
+  entry_long fault size stood room large long is same =
+      read_refuses (subst (λ (z : Fault). MayWalk repo z) (sym is) (inr (inl large))) stood (λ t. (same t, inr (inl (room, subst (λ (z : ℕ). longest < z) long large, is ∙ ap (λ (z : ℕ). TooLarge (told_path path) z) long))))
 
   pub entry_dir : (r : Result (Unit {0}) Trouble) → n < item_limit → length (path ++ e.name) ≤ longest → is_dir e.mode ≡ true → DirReads tells repo (inside path e.name) e.id.0 list after (n + 1) m old new r → Entries r
   entry_dir r room short is reads = read_weaker r (λ _ sub. dir_goes repo path (present old) e list after n m is short sub) (λ fault h. inr (inr (room, short, is, h))) reads
