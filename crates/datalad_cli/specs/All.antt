@@ -10,8 +10,8 @@ pub use Rattle.datalad_cli.specs.Commands.{wish_of, without_value}
 pub use Rattle.datalad_cli.specs.Decides.{CommandSays, EndsCutOff, EndsSaying, HasFault, MayEnd}
 pub use Rattle.datalad_cli.specs.Decides.{WordsDecide}
 pub use Rattle.datalad_cli.specs.Ends.{AtEachMoment, CallEnds, CallGoes, CommandEnds, EndsHalted}
-pub use Rattle.datalad_cli.specs.Ends.{NoneFailed, StatusCause, StatusEnds, Telling, WasCutOff, World}
-pub use Rattle.datalad_cli.specs.Ends.{ending_text, telling_of, world_of}
+pub use Rattle.datalad_cli.specs.Ends.{NoneFailed, StatusCause, StatusEnds, Telling, WasCutOff}
+pub use Rattle.datalad_cli.specs.Ends.{World, ending_text, telling_of, world_of}
 pub use Rattle.datalad_cli.specs.Finding.{head_within, is_root, root_up, stands_within}
 unfoldable pub use Rattle.datalad_cli.specs.Finding.{root_at}
 pub use Rattle.datalad_cli.specs.Reports.{Failure, Heard, OutputCounts, RefusalEnds, ReportEnds}

@@ -1,6 +1,6 @@
 -- Which calls of files or of an output in memory fail.
-use Rattle.std.specs.Prelude.{◌≡◌, ℕ, [], Bool, true, false, ◌||◌, if◌then◌else◌, Option, None, Some}
-use Rattle.std.specs.Prelude.{nat_le, nat_eq}
+use Rattle.std.specs.Prelude.{◌≡◌, ℕ, [], Bool, true, false, ◌||◌, if◌then◌else◌, Option, None}
+use Rattle.std.specs.Prelude.{Some, nat_le, nat_eq}
 use Rattle.std.specs.List.{list_any}
 use Rattle.file_store.specs.Causes.{one_more}
 use Rattle.file_store.specs.declared.memory.plan.Turn.{Turn}
