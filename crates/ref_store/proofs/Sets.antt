@@ -3,7 +3,6 @@ use Rattle.std.proofs.Common.{inl, inr, ◌≡◌, ◌≢◌, ◌≤◌, ◌<◌
 use Rattle.std.specs.Prelude.{codes, decimal, slice_get}
 use Rattle.std.proofs.lemmas.Bool.{lt-ltb, le-ltb}
 use Rattle.places.specs.All.{Names, text_of, pieces}
-use Rattle.places.proofs.Above.{is_above-under}
 use Rattle.file_store.specs.All.{Drive, History, GoesAlong, present, or_next, only, ReplaceEnds}
 use Rattle.file_store.specs.All.{Counts, has_failed, IsNoTmp, replacing}
 use Rattle.file_store.specs.declared.errors.FileErr.{FileErr}
@@ -16,7 +15,7 @@ use Rattle.faults.specs.declared.faults.Trouble.TheVariants.{Refused, Device, No
 use Rattle.repository.specs.All.{id_text, repo_head, tip_place, tmp_place, tmp_names, in_tmp}
 use Rattle.repository.specs.All.{repo_limit, large, is_tmp, is_repo}
 use Rattle.repository.proofs.Temporary.{outside_apart}
-use Rattle.repository.proofs.Unfinished.{repo_tmp}
+use Rattle.repository.proofs.Unfinished.{repo_tmp, is_in-under}
 use Rattle.acts.specs.All.{ActsQuietly, puts, CanReplace, MayBlock}
 use Rattle.acts.proofs.Laws.{seq, fails, handed, starved_early, failed_early, passes_on, stops_on, same_act}
 use Rattle.acts.proofs.Replaces.{replaces, in_trouble}
@@ -28,8 +27,8 @@ use Rattle.ref_store.specs.declared.heads.Head.{Head}
 
 -- the tip's file is no temporary one
 pub tip_outside : (repo : Names) (branch : Option (List ℕ)) → in_tmp repo (tip_place repo branch) ≡ false
-tip_outside repo None = is_above-under repo tmp_names (codes "HEAD" ∷ [])
-tip_outside repo (Some name) = is_above-under repo tmp_names (codes "refs" ∷ codes "heads" ∷ pieces name)
+tip_outside repo None = is_in-under repo tmp_names (codes "HEAD" ∷ [])
+tip_outside repo (Some name) = is_in-under repo tmp_names (codes "refs" ∷ codes "heads" ∷ pieces name)
 
 pub tip_apart : (repo tmp place : Names) (branch : Option (List ℕ)) → tmp ≡ tmp_place repo 0 → place ≡ tip_place repo branch → tmp ≢ place
 tip_apart repo tmp place branch at_tmp at_place e = outside_apart repo (tip_place repo branch) 0 (tip_outside repo branch) (sym at_place ∙ sym e ∙ at_tmp)
