@@ -11,7 +11,7 @@ use Rattle.git_objects.specs.All.{IsId, hex_of, oid}
 use Rattle.git_objects.specs.declared.ids.Id.{Id}
 use Rattle.repository.specs.All.{head_in, head_of, id_in, id_text, ref_text, is_branch, dlrepo}
 use Rattle.repository.specs.All.{repo_of, head_place, settings_place, branch_place, object_names}
-use Rattle.repository.specs.All.{object_place, tmp_names}
+use Rattle.repository.specs.All.{object_place}
 use Rattle.repository.proofs.Holds.{held_is}
 use Rattle.object_store.specs.All.{with_objects}
 use Rattle.object_store.specs.declared.objects.NewObject.{NewObject}
@@ -230,7 +230,7 @@ module _ (root : Names) (objects : List NewObject) (work : Round) (settings name
     };
     tmp = λ names firm.
         let watched = tmp_watched root names birth.outside firm in
-        third_first (tmp_names ++ names) watched refl refl refl ∙ first_none (tmp_names ++ names) watched refl;
+        third_first (codes "tmp" ∷ names) watched refl refl refl ∙ first_none (codes "tmp" ∷ names) watched refl;
     outside = birth.outside;
   }
 

@@ -6,7 +6,7 @@ use Rattle.places.specs.All.{Names, pieces, Ground, file_at}
 use Rattle.places.proofs.Grounds.{cases_place, file_at-insert_same, file_at-insert_other}
 use Rattle.git_objects.specs.All.{IsId, hex_of}
 use Rattle.repository.specs.All.{Head, head_in, head_of, id_in, id_text, is_branch, repo_of}
-use Rattle.repository.specs.All.{head_place, branch_place, object_names, object_place, tmp_names}
+use Rattle.repository.specs.All.{head_place, branch_place, object_names, object_place}
 use Rattle.dataset.specs.Watched.{IsRoot}
 use Rattle.dataset.specs.Whole.{IsWhole}
 use Rattle.dataset.specs.Sound.{IsDataset, HasSoundHeads, IsSoundAt, Sound, HoldsAll}
@@ -56,7 +56,7 @@ module _ (root leads : Names) (text : List ℕ) (g : Ground) (outside : IsRoot r
       stands = elsewhere (repo_of root ++ codes "config" ∷ []) (not_there root (codes "config" ∷ []) outside refl) ∙ at.settings.stands;
       valid = at.settings.valid;
     };
-    tmp = λ names firm. elsewhere (repo_of root ++ tmp_names ++ names) (not_there root (tmp_names ++ names) outside refl) ∙ at.tmp names firm;
+    tmp = λ names firm. elsewhere (repo_of root ++ codes "tmp" ∷ names) (not_there root (codes "tmp" ∷ names) outside refl) ∙ at.tmp names firm;
     outside = outside;
   }
 

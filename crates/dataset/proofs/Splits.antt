@@ -10,7 +10,7 @@ use Rattle.places.proofs.Grammar.{or_right}
 use Rattle.places.proofs.Above.{first_split, first_found}
 use Rattle.places.proofs.Named.{has_name-more}
 use Rattle.repository.specs.All.{is_branch_byte, is_component, is_branch, dlrepo, repo_of}
-use Rattle.repository.specs.All.{head_place, object_names, tmp_names, is_tmp}
+use Rattle.repository.specs.All.{head_place, object_names, is_tmp}
 use Rattle.repository.proofs.BranchNames.{branch_facts, branch_firm}
 use Rattle.repository.proofs.Unfinished.{tmp_below_root, object_names_firm, head_firm}
 use Rattle.dataset.specs.Watched.{IsRoot, is_own, is_looked_at, is_seen, is_watched, IsWatched}
@@ -134,9 +134,9 @@ unfolding is_tmp
 settings_watched = refl
 
 -- `tmp`, and what lies below it and is no unfinished write
-pub tmp_watched : (root names : Names) → IsRoot root → is_tmp (repo_of root ++ tmp_names ++ names) ≡ false → is_watched_name (tmp_names ++ names) ≡ true
+pub tmp_watched : (root names : Names) → IsRoot root → is_tmp (repo_of root ++ codes "tmp" ∷ names) ≡ false → is_watched_name (codes "tmp" ∷ names) ≡ true
 tmp_watched root names outside firm =
-    λ i. not ((sym (ap is_tmp (in_repo root (tmp_names ++ names)) ∙ tmp_below_root root (dlrepo ∷ tmp_names ++ names) outside) ∙ firm) i) && true
+    λ i. not ((sym (ap is_tmp (in_repo root (codes "tmp" ∷ names)) ∙ tmp_below_root root (dlrepo ∷ codes "tmp" ∷ names) outside) ∙ firm) i) && true
 
 -- ---- branches' places
 

@@ -5,7 +5,7 @@ use Rattle.std.proofs.lemmas.Bool.{false≢true}
 use Rattle.places.specs.All.{Names, pieces, Ground, file_at}
 use Rattle.git_objects.specs.All.{hex_of, Object}
 use Rattle.repository.specs.All.{head_in, head_of, is_branch, object_of, held_at, repo_of}
-use Rattle.repository.specs.All.{head_place, branch_place, object_names, object_place, tmp_names}
+use Rattle.repository.specs.All.{head_place, branch_place, object_names, object_place}
 use Rattle.repository.specs.All.{LessTmp}
 use Rattle.repository.proofs.Unfinished.{tmp_firm}
 use Rattle.dataset.specs.Watched.{IsRoot, SameWatched}
@@ -50,7 +50,7 @@ module _ (root : Names) (a b : Ground) (rest : SameRest root b a) where
       stands = rest (codes "config" ∷ []) settings_watched refl ∙ at.settings.stands;
       valid = at.settings.valid;
     };
-    tmp = λ names firm. rest (tmp_names ++ names) (tmp_watched root names at.outside firm) refl ∙ at.tmp names firm;
+    tmp = λ names firm. rest (codes "tmp" ∷ names) (tmp_watched root names at.outside firm) refl ∙ at.tmp names firm;
     outside = at.outside;
   }
 

@@ -1,10 +1,10 @@
 -- Which grounds are sound.
-use Rattle.std.specs.Prelude.{◌≡◌, ℕ, true, false, List, ◌++◌, Some, None, IsSome, Ok}
+use Rattle.std.specs.Prelude.{◌≡◌, ℕ, true, false, List, ◌∷◌, ◌++◌, codes, Some, None, IsSome, Ok}
 use Rattle.places.specs.All.{Names, Ground, file_at, stands}
 use Rattle.git_objects.specs.All.{Fields, IsId, Object}
 use Rattle.config_text.specs.All.{PlainConfig, config_in}
 use Rattle.repository.specs.All.{Head, head_of, id_in, is_branch, held_at, repo_of, head_place}
-use Rattle.repository.specs.All.{settings_place, object_place, branch_place, tmp_names, is_tmp}
+use Rattle.repository.specs.All.{settings_place, object_place, branch_place, is_tmp}
 use Rattle.object_store.specs.All.{IsCommitAt}
 use Rattle.dataset.specs.Watched.{IsRoot}
 use Rattle.dataset.specs.Whole.{IsWhole, AreWhole}
@@ -43,8 +43,8 @@ pub record HasSoundSettings (root : Names) (g : Ground) : Type 0 where
 -- itself, and none deeper below it, but for unfinished writes of a repository that lies there.
 abbrev pub HasSoundTmp : Names → Ground → Type 0
 HasSoundTmp repo g =
-    (names : Names) → is_tmp (repo ++ tmp_names ++ names) ≡ false
-    → file_at g (repo ++ tmp_names ++ names) ≡ None
+    (names : Names) → is_tmp (repo ++ codes "tmp" ∷ names) ≡ false
+    → file_at g (repo ++ codes "tmp" ∷ names) ≡ None
 
 -- What a sound ground has of a dataset whose files are all kept in git: its objects, its heads, its
 -- configuration, room for unfinished writes; and it isn't in a repository.
