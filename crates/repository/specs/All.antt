@@ -10,7 +10,7 @@ pub use Rattle.repository.specs.Layout.{branch_place, config_place, dlrepo, head
 pub use Rattle.repository.specs.Layout.{is_in, is_single}
 pub use Rattle.repository.specs.Layout.{main_place, object_names, object_place, repo_head, repo_of}
 pub use Rattle.repository.specs.Layout.{settings_place, tip_place, tmp_names, tmp_place}
-pub use Rattle.repository.specs.Limits.{large, object_body_limit, object_file_limit, object_limit}
-pub use Rattle.repository.specs.Limits.{repo_limit}
+pub use Rattle.repository.specs.Limits.{item_limit, large, object_body_limit, object_file_limit}
+pub use Rattle.repository.specs.Limits.{object_limit, repo_limit}
 pub use Rattle.repository.specs.Unfinished.{IsOutside, LessTmp, is_below_tmp}
 unfoldable pub use Rattle.repository.specs.Unfinished.{is_repo, is_tmp}
