@@ -21,8 +21,8 @@ object_body_limit = 67108864
 abbrev pub object_file_limit : ℕ
 object_file_limit = 67108880
 
--- How many leaves and directories a commit's tree may have, and how many items a walk over files may
--- meet.
+-- How many leaves and directories a commit's tree may have, and how many items a walk over files
+-- may meet.
 abbrev pub item_limit : ℕ
 item_limit = 100000
 

@@ -83,7 +83,8 @@ IsEntryFault repo count path e g fault =
     ⊎ ((count < item_limit) × (length (path ++ e.name) ≤ longest) × (is_dir e.mode ≡ true)
     × IsReadFault repo g (count + 1) (inside path e.name) e.id.0 fault))
 
--- Some entries of the directory at a path were read: their paths were found, and their items counted.
+-- Some entries of the directory at a path were read: their paths were found, and their items
+-- counted.
 pub record GoesOn (repo : Names) (path : List ℕ) (entries : List TreeEntry) (old new : Found)
     (g : Ground) : Type 0 where
   pub dir : Dir
