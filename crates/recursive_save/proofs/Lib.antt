@@ -17,12 +17,16 @@ pub mod KeepsSound
 pub mod Made
 pub mod NewSettings
 pub mod OldLeaves
+pub mod OneAct
 pub mod Ours
 pub mod PathOrder
 pub mod Persons
 pub mod PlanFacts
 pub mod Readings
+pub mod SaidLines
 pub mod SaveKeeps
+pub mod SaveLeft
+pub mod SaveRounds
 pub mod Saves
 pub mod Standing
 pub mod Views

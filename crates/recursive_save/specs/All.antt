@@ -28,6 +28,10 @@ pub use Rattle.recursive_save.specs.Planned.{HasWork, IsCommitOn, IsPlanRefusal,
 pub use Rattle.recursive_save.specs.Planned.{IsPlannedOf, MayPlan, PlanFails, plan_of}
 pub use Rattle.recursive_save.specs.Plans.{IsPlan, parts_of}
 pub use Rattle.recursive_save.specs.Remains.{CreateRemains, HeldStay, SameOutside}
+pub use Rattle.recursive_save.specs.Saved.{AreChangeLines, AreSaveLines, IsChangeLine}
+pub use Rattle.recursive_save.specs.Saved.{IsSoundEnding, IsSoundRefusal}
+pub use Rattle.recursive_save.specs.Saved.{SaveIsComplete, SaveIsOne, SaveKeeps, SaveRemains}
+pub use Rattle.recursive_save.specs.Saved.{SaveRemainsAt, SaveSays}
 pub use Rattle.recursive_save.specs.Saving.{IsRead, IsSave, IsSavePlan, IsUnread, MaySave, SavePlan}
 pub use Rattle.recursive_save.specs.Saving.{blobs_limit, clash_fault, clash_with, clean}
 pub use Rattle.recursive_save.specs.Saving.{dataset_line, line_fault, pin_fault, plan_fault}

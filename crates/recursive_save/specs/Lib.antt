@@ -10,6 +10,7 @@ pub mod Laws
 pub mod Planned
 pub mod Plans
 pub mod Remains
+pub mod Saved
 pub mod Saving
 pub mod Soundness
 pub mod Views

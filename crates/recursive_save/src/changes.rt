@@ -10,6 +10,7 @@ ghost use Rattle.recursive_save.specs.Changes.{WorkFile, added, change_line, cha
 ghost use Rattle.recursive_save.specs.Changes.{leaf_at, new_entries, was_exec};
 ghost use Rattle.recursive_save.specs.Changed.{ArePaths, HasPaths, as_files, file_entry, is_gone, is_new};
 ghost use Rattle.recursive_save.specs.Changed.{line_at, paths_of, shown, with_lines};
+ghost use Rattle.recursive_save.specs.Saved.{AreChangeLines};
 
 use crate::first::text;
 use faults::Line;
@@ -172,14 +173,15 @@ fn in_order(alloc: Global, lines: BTreeMap<&str, Line>) -> Result<Vec<Line>, All
     Ok(list)
 }
 
-/// The lines of the changes, in byte order of the paths.
+/// The lines of the changes, in byte order of the paths. Whatever the files tell, each is one of a changed file.
 pub(crate) fn lines_of(
     alloc: Global,
     old: &Snapshot,
     files: &[WorkingFile],
 ) -> Result<Vec<Line>, AllocError>
-    ensures { (work : List WorkFile) → files.now ≡ as_files work → IfOk result
+    ensures lines { (work : List WorkFile) → files.now ≡ as_files work → IfOk result
         (λ lines. lines.items ≡ change_lines old.now work) }
+    ensures said { IfOk result (λ lines. AreChangeLines lines.items) }
 {
     let added = added_files(alloc, old, files)?;
     let deleted = deleted_entries(alloc, old, files)?;

@@ -1,5 +1,6 @@
 // What follows of the making of a dataset and of a save: laws of their definitions.
 ghost use Rattle.recursive_save.specs.Laws.{CreateRefuses, CreateMakes, CreateKeeps};
+ghost use Rattle.recursive_save.specs.Saved.{SaveIsComplete, SaveIsOne, SaveKeeps};
 ghost use Rattle.recursive_save.specs.Soundness.{CreateKeepsSound, SaveKeepsSound};
 
 use config_text::{Remote, Section, config_is_read};
@@ -33,4 +34,20 @@ pub fn create_keeps_sound(alloc: Global)
 /// A save on a sound ground and a settled disk: sound at every moment, and in what a crash leaves.
 pub fn save_keeps_sound()
     ensures { SaveKeepsSound }
+{}
+
+/// A save has one act, by the ground at which it starts.
+pub fn save_is_one()
+    ensures { SaveIsOne }
+{}
+
+/// At every moment of a save, and in what a crash leaves: nothing outside the repository has changed, the tip comes with
+/// all the rest, and nothing is lost.
+pub fn save_remains()
+    ensures { SaveKeeps }
+{}
+
+/// A save of a sound dataset is refused only for what its user did, for a limit, or for two objects with one id.
+pub fn save_is_complete()
+    ensures { SaveIsComplete }
 {}

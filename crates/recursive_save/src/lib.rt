@@ -17,7 +17,8 @@ mod wishes;
 
 pub use creating::create;
 pub use laws::{
-    create_keeps_sound, create_makes, create_refuses, create_remains, save_keeps_sound,
+    create_keeps_sound, create_makes, create_refuses, create_remains, save_is_complete,
+    save_is_one, save_keeps_sound, save_remains,
 };
 pub use saving::save;
 pub use wishes::SaveWish;

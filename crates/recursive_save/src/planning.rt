@@ -7,6 +7,7 @@ ghost use Rattle.acts.specs.All.{Reads};
 ghost use Rattle.recursive_save.specs.Changed.{ArePaths};
 ghost use Rattle.recursive_save.specs.Changes.{WorkFile, change_lines};
 ghost use Rattle.recursive_save.specs.Configured.{HasPerson};
+ghost use Rattle.recursive_save.specs.Saved.{AreSaveLines};
 ghost use Rattle.recursive_save.specs.Saving.{dataset_line, save_commit};
 ghost use Rattle.recursive_save.specs.Planned.{IsPlannedOf, IsPlanRefusal, MayPlan, IsPlanWith, HasWork, PlanFails};
 ghost use Rattle.recursive_save.specs.Planned.{plan_of, IsCommitOn};
@@ -92,8 +93,9 @@ fn saved_line(alloc: Global) -> Result<Line, AllocError>
 
 // The lines of the changes, and that of the dataset.
 fn all_lines(alloc: Global, view: &View) -> Result<Vec<Line>, AllocError>
-    ensures { (work : List WorkFile) → HasWork view.now work → IfOk result (λ lines. lines.items
+    ensures lines { (work : List WorkFile) → HasWork view.now work → IfOk result (λ lines. lines.items
         ≡ change_lines view.now.old work ++ dataset_line (codes "ok") ∷ []) }
+    ensures said { IfOk result (λ lines. AreSaveLines lines.items) }
 {
     let mut lines = lines_of(alloc, &view.old, view.files.as_slice())?;
     lines.push(saved_line(alloc)?)?;
@@ -112,6 +114,7 @@ fn complete(
     requires ordered { ArePaths view.now.files.items }
     ensures plan { (work : List WorkFile) → HasWork view.now work → IfOk result
         (λ planned. IsPlanWith (plain_config config.now) view.now wish.now blobs.items work (plan_of planned)) }
+    ensures said { IfOk result (λ planned. AreSaveLines planned.lines.items) }
     ensures fails { IfErr result (PlanFails view.now) }
 {
     let new = new_snapshot(alloc, &view.old, view.files.as_slice())?;
@@ -142,9 +145,10 @@ pub(crate) fn plan<F: Files>(
 ) -> Result<Planned, Trouble>
     requires looked { IsTrue F.tells → IsView root.now (present (F.drive files.old)) view.now }
     requires ordered { ArePaths view.now.files.items }
-    ensures { Reads (λ fault. MayPlan F.tells root.now fault) F.tells
+    ensures reads { Reads (λ fault. MayPlan F.tells root.now fault) F.tells
         (λ g planned. IsPlannedOf root.now wish.now view.now g planned)
         (λ g fault. IsPlanRefusal root.now view.now g fault) (F.drive files.old) (F.drive files.new) result }
+    ensures said { IfOk result (λ planned. AreSaveLines planned.lines.items) }
 {
     let config = read_settings(alloc, files, root)?;
     let added = added_files(alloc, &view.old, view.files.as_slice())?;

@@ -5,6 +5,7 @@
 ghost use Rattle.std.specs.Prelude.{◌≡◌, IfOk, codes};
 ghost use Rattle.repository.specs.All.{repo_of};
 ghost use Rattle.acts.specs.All.{Acts, ActsAs};
+ghost use Rattle.recursive_save.specs.Saved.{AreSaveLines, SaveSays};
 ghost use Rattle.recursive_save.specs.Saving.{dataset_line, IsSave, MaySave, writes};
 ghost use Rattle.recursive_save.specs.Writing.{IsRepo};
 ghost use Rattle.recursive_save.specs.Planned.{plan_of};
@@ -47,7 +48,7 @@ fn notneeded_line(alloc: Global) -> Result<Line, AllocError>
     })
 }
 
-// Writes a plan of objects that don't collide: they, the tip, the lines.
+// Writes a plan of objects that don't collide: they, the tip, the lines, which are those of a save.
 fn write<F: Files>(
     alloc: Global,
     files: &mut F,
@@ -57,7 +58,9 @@ fn write<F: Files>(
     lines: &mut Vec<Line>,
 ) -> Result<Option<Id>, Trouble>
     requires repo { repo.now ≡ repo_of root.now }
-    ensures { Acts (λ fault. MaySave F.tells root.now fault) F.tells (writes root.now (plan_of planned)) lines.old.items
+    requires said { AreSaveLines planned.lines.items }
+    ensures says { SaveSays lines.old.items lines.new.items result }
+    ensures acts { Acts (λ fault. MaySave F.tells root.now fault) F.tells (writes root.now (plan_of planned)) lines.old.items
         lines.new.items (F.drive files.old) (F.drive files.new) result }
 {
     let mut more = planned.lines;
@@ -81,7 +84,8 @@ pub fn save<F: Files>(
     wish: &SaveWish,
     lines: &mut Vec<Line>,
 ) -> Result<Option<Id>, Trouble>
-    ensures { ActsAs (λ fault. MaySave F.tells root.now fault) F.tells (λ g act. IsSave root.now wish.now g act)
+    ensures says { SaveSays lines.old.items lines.new.items result }
+    ensures acts { ActsAs (λ fault. MaySave F.tells root.now fault) F.tells (λ g act. IsSave root.now wish.now g act)
         lines.old.items lines.new.items (F.drive files.old) (F.drive files.new) result }
 {
     let repo = repo(alloc, root)?;

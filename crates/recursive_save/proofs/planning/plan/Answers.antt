@@ -4,20 +4,20 @@ use Rattle.recursive_save.specs.Changed.{shown}
 use Rattle.recursive_save.proofs.PlanFacts.{Picked, config_fails, blobs_fail, plan_ends}
 use Rattle.recursive_save.proofs.planning.plan.Goals as goal
 
-pub returns-in_err-config : goal.returns-in_err-config
-returns-in_err-config g c =
+pub returns-in_err-config-clause-reads : goal.returns-in_err-config-clause-reads
+returns-in_err-config-clause-reads g c =
     read_exits c.from_residual.ensures.1 (config_fails g.F.Files.tells c.args.root.now c.args.wish.now c.args.view.now c.in_err-config.ensures.reads)
 
-pub returns-in_err-blobs : goal.returns-in_err-blobs
-returns-in_err-blobs g c =
+pub returns-in_err-blobs-clause-reads : goal.returns-in_err-blobs-clause-reads
+returns-in_err-blobs-clause-reads g c =
     let files = shown c.as_slice-2.result.now in
     let picked : Picked g.F.Files.tells c.args.root.now c.args.wish.now c.args.view.now files =
     λ work e. ap shown c.as_slice-2.ensures.value ∙ c.in_ok-added.ensures work (c.as_slice.ensures.value ∙ e) in
     read_exits c.from_residual-in_err-blobs.ensures.1
     (blobs_fail g.F.Files.tells c.args.root.now c.args.wish.now c.args.view.now files c.requires.looked c.in_ok-config.ensures.reads picked c.in_err-blobs.ensures)
 
-pub returns : goal.returns
-returns g c =
+pub returns-clause-reads : goal.returns-clause-reads
+returns-clause-reads g c =
     let files = shown c.as_slice-2.result.now in
     let picked : Picked g.F.Files.tells c.args.root.now c.args.wish.now c.args.view.now files =
     λ work e. ap shown c.as_slice-2.ensures.value ∙ c.in_ok-added.ensures work (c.as_slice.ensures.value ∙ e) in

@@ -1,0 +1,106 @@
+-- What follows of a save.
+use Rattle.std.specs.Prelude.{◌≡◌, ◌⊎◌, ℕ, List, [], ◌∷◌, ◌++◌, Option, Some, None, Result, Ok}
+use Rattle.std.specs.Prelude.{Err, codes}
+use Rattle.places.specs.All.{Names, Ground}
+use Rattle.faults.specs.declared.lines.Line.{Line}
+use Rattle.faults.specs.declared.faults.Fault.{Fault}
+use Rattle.faults.specs.declared.faults.Fault.TheVariants.{TooLarge, UnsupportedMode, OddKind}
+use Rattle.faults.specs.declared.faults.Fault.TheVariants.{Collision, Blocked}
+use Rattle.faults.specs.declared.faults.Trouble.{Trouble}
+use Rattle.file_store.specs.All.{Disk, Drive, Since, IsImage, WasOpen, present}
+use Rattle.git_objects.specs.declared.ids.Id.{Id}
+use Rattle.repository.specs.All.{repo_of}
+use Rattle.acts.specs.All.{Act, Ending, Gives, Refuses, Breaks, Moments, last_of}
+use Rattle.acts.specs.All.{IsFixed, Nothing, OldOrNew, NewWithAll}
+use Rattle.ref_store.specs.All.{IsTipPlace}
+use Rattle.dataset.specs.All.{Sound, IsDataset}
+use Rattle.recursive_save.specs.Remains.{HeldStay, SameOutside}
+use Rattle.recursive_save.specs.Saving.{IsSave, dataset_line}
+use Rattle.recursive_save.specs.declared.wishes.SaveWish.{SaveWish}
+
+-- Of one ground a save has one act.
+abbrev pub SaveIsOne : Type 0
+SaveIsOne =
+    (root : Names) (wish : SaveWish) (g : Ground) (one two : Act (Option Id))
+    → IsSave root wish g one → IsSave root wish g two → one ≡ two
+
+-- The line of one changed file: it was added or deleted.
+abbrev pub IsChangeLine : Line → Type 0
+IsChangeLine line =
+    (line ≡ record { action = codes "add"; status = codes "ok"; path = line.path; kind = codes "file" })
+    ⊎ (line ≡ record {
+      action = codes "delete";
+      status = codes "ok";
+      path = line.path;
+      kind = codes "file";
+    })
+
+-- Lines of changed files.
+abbrev pub AreChangeLines : List Line → Type 0
+AreChangeLines [] = Unit {0}
+AreChangeLines (line ∷ lines) = IsChangeLine line × AreChangeLines lines
+
+-- The lines of a save that makes a commit: those of changed files, and then that of the dataset.
+abbrev pub AreSaveLines : List Line → Type 0
+AreSaveLines lines =
+    (changes : List Line) × AreChangeLines changes
+    × (lines ≡ changes ++ dataset_line (codes "ok") ∷ [])
+
+-- The lines that a save says, whatever the files tell: those of changed files, and then that of the
+-- dataset; that the dataset needs no save; none where it is refused or fails.
+abbrev pub SaveSays : List Line → List Line → Result (Option Id) Trouble → Type 0
+SaveSays before after (Ok (Some id)) =
+    (changes : List Line) × AreChangeLines changes
+    × (after ≡ before ++ changes ++ dataset_line (codes "ok") ∷ [])
+SaveSays before after (Ok None) = after ≡ before ++ dataset_line (codes "notneeded") ∷ []
+SaveSays before after (Err trouble) = after ≡ before
+
+-- Of the ground g at the start, and of the one to which the act comes, x: nothing outside the
+-- repository has changed; each place is as in one of the two; HEAD and each branch are as they were
+-- unless all the rest is as in the other; and what was held is held.
+pub record SaveRemains (root : Names) (end : Ground) (Else : Names → Option (List ℕ) → Type 0)
+    (g x : Ground)
+    : Type 0 where
+  pub outside : SameOutside (repo_of root) Else g x
+  pub places : OldOrNew Else g end x
+  pub tip : (place : Names) → IsTipPlace (repo_of root) place → IsFixed place
+      → NewWithAll Else place g end x
+  pub held : HeldStay Else g x
+
+-- What is left in what stands, and in each ground that a crash may leave, where a place that was
+-- open at the start may have what a crash might have left of it then.
+abbrev pub SaveRemainsAt : Names → Act (Option Id) → Drive → Disk → Type 0
+SaveRemainsAt root act old d =
+    SaveRemains root (last_of act (present old)) Nothing (present old) d.now
+    × ((x : Ground) → IsImage d x
+    → SaveRemains root (last_of act (present old)) (WasOpen old.history.latest) (present old) x)
+
+-- At every moment of a save that goes along the rounds of its act, this is left.
+abbrev pub SaveKeeps : Type 0
+SaveKeeps =
+    (root : Names) (wish : SaveWish) (act : Act (Option Id)) (old new : Drive)
+    → IsSave root wish (present old) act → Moments act old new
+    → Since (λ d. SaveRemainsAt root act old d) old.history new.history
+
+-- The faults for which a save of a sound dataset may be refused: a limit is passed; a nested dataset
+-- is in the commit, or among the working files; two objects have one id; a file is in the way.
+abbrev pub IsSoundRefusal : Fault → Type 0
+IsSoundRefusal (TooLarge path size) = Unit {0}
+IsSoundRefusal (UnsupportedMode path) = Unit {0}
+IsSoundRefusal (OddKind path) = Unit {0}
+IsSoundRefusal (Collision id) = Unit {0}
+IsSoundRefusal (Blocked at) = Unit {0}
+IsSoundRefusal fault = ⊥
+
+-- An ending that a save of a sound dataset may have.
+abbrev pub IsSoundEnding : {V : Type 0} → Ending V → Type 0
+IsSoundEnding (Gives v) = Unit {0}
+IsSoundEnding (Refuses fault) = IsSoundRefusal fault
+IsSoundEnding (Breaks fault) = IsSoundRefusal fault
+
+-- A save of a sound dataset is refused for nothing that the program itself has left there: no
+-- object, tree, commit, HEAD, branch or configuration is missing, damaged or out of form.
+abbrev pub SaveIsComplete : Type 0
+SaveIsComplete =
+    (root : Names) (wish : SaveWish) (g : Ground) (act : Act (Option Id)) → Sound g
+    → IsDataset root g → IsSave root wish g act → IsSoundEnding act.ending
