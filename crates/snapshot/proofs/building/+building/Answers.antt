@@ -41,8 +41,7 @@ build_next-build_dir-requires t c =
     let name = c.in-Some.name.now in
     let group = c.in_ok-part-in-Some.ensures in
     let less : weight part < weight list = weight-group name list part group (some_in c.args.rests.now _ name _ part c.requires.some c.in-Some.ensures.2 group) in
-    let same : weight (all_seen c.as_slice.result.now) ≡ weight part = ap (λ (z : List Rest). weight (all_seen z)) c.as_slice.ensures.value in
-    (
+    let same : weight (all_seen c.as_slice.result.now) ≡ weight part = ap (λ (z : List Rest). weight (all_seen z)) c.as_slice.ensures.value in (
       omega (arith, c.decreases, less, same),
       subst (λ (z : List Rest). IsPathList (all_seen z)) (sym c.as_slice.ensures.value) (part_list name list part c.in-Some.ensures.0 group c.requires.paths),
     )
@@ -78,8 +77,7 @@ pub build_dir-build_next-requires : goal.build_dir-build_next-requires
 build_dir-build_next-requires t c =
     let list = all_seen c.args.rests.now in
     let left = all_seen c.loop-left.left.now in
-    let less = left_weight list left c.loop-left.entries.items c.args.objects.now.items c.loop-left.objects.items c.loop-left.invariant in
-    (
+    let less = left_weight list left c.loop-left.entries.items c.args.objects.now.items c.loop-left.objects.items c.loop-left.invariant in (
       omega (arith, c.decreases, less),
       (
         some_left c.loop-left.left.now (sym c.is_empty.ensures ∙ c.loop-left-test.true),
