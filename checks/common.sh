@@ -13,6 +13,9 @@ failed() {
 }
 skipped() { echo "skipped: $1 ($2)"; }
 
+# What the program says of a device that failed.
+device=$'datalad: a device failed\n'
+
 # says NAME COMMAND..: ok where the command succeeds
 says() {
   local name=$1
@@ -91,4 +94,27 @@ is_dataset() {
   [[ $main =~ ^[0-9a-f]{40}$'\n'\.$ ]] || return 1
   id=${main:0:40}
   [ "$(sha1sum <"$1/.dlrepo/objects/${id:0:2}/${id:2}")" = "$id  -" ] || return 1
+}
+
+# ended NAME STATUS OUT ERR: how the last run ended, with both its texts
+ended() {
+  same "$1" "$(echo "$status" && cat "$at.out" && echo "--" && cat "$at.err" && echo "--")" "$2"$'\n'"$3--"$'\n'"$4--"
+}
+
+# changes_nothing NAME STATUS ERR WORDS..: a call that is refused, or fails, and leaves all as it was
+changes_nothing() {
+  local name=$1 wanted=$2 text=$3 before
+  shift 3
+  before=$(picture "$at")
+  run "$@"
+  ended "$name: status and text" "$wanted" "" "$text"
+  same "$name: nothing changed" "$(picture "$at")" "$before"
+}
+
+# Sets `as` to the words that start a program without privileges.
+without_privileges() {
+  as=()
+  [ "$EUID" = 0 ] || return 0
+  as=(setpriv --reuid=65534 --regid=65534 --clear-groups --no-new-privs)
+  "${as[@]}" test -x "$program" 2>/dev/null
 }

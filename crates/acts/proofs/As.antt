@@ -1,5 +1,5 @@
 -- The laws of calls whose act is one that a fact about the ground allows.
-use Rattle.std.proofs.Common.{◌≡◌, ◌≤◌, Bool, List, Result, Err, refl, sym, ◌∙◌, ap, subst, IsTrue, inl, inr}
+use Rattle.std.proofs.Common.{◌≡◌, Bool, List, Result, Err, refl, sym, ◌∙◌, ap, subst, IsTrue, inl, inr}
 use Rattle.std.specs.Prelude.{IsErrAnd}
 use Rattle.std.proofs.lemmas.Result.{err_from_is_err_and}
 use Rattle.places.specs.All.{Ground}
@@ -24,19 +24,19 @@ module _ {V : Type 0} {may : Fault → Type 0} {tells : Bool} {IsAct : Ground �
   }
 
   -- want of memory before anything was done or said
-  pub as_starved : {l : List Line} {d0 d1 : Drive} → d0.faults ≤ d1.faults → (IsTrue tells → d1.history ≡ d0.history)
+  pub as_starved : {l : List Line} {d0 d1 : Drive} → d1.faults ≡ d0.faults → (IsTrue tells → d1.history ≡ d0.history)
       → ActsAs may tells IsAct l l d0 d1 (Err NoMemory)
-  as_starved up same = record {
-    later = up;
+  as_starved stood same = record {
+    later = stood;
     cause = tt;
     told = λ t. inl (record { why = tt; said = refl; kept = same t });
   }
 
   -- a refusal before anything was done or said
-  pub as_refused : {fault : Fault} {l : List Line} {d0 d1 : Drive} → may fault → d0.faults ≤ d1.faults
+  pub as_refused : {fault : Fault} {l : List Line} {d0 d1 : Drive} → may fault → d1.faults ≡ d0.faults
       → (IsTrue tells → (d1.history ≡ d0.history) × IsAct (present d0) (still (Refuses fault))) → ActsAs may tells IsAct l l d0 d1 (Err (Refused fault))
   unfolding refuses
-  as_refused {fault} permitted up is = as_allowed (refuses fault) (λ t. (is t).1) (after_reading up (λ t. (is t).0) (refused permitted))
+  as_refused {fault} permitted stood is = as_allowed (refuses fault) (λ t. (is t).1) (after_reading stood (λ t. (is t).0) (refused permitted))
 
   -- the error of a call that has read, each refusal of which is allowed as an act
   pub as_unread : {A : Type 0} {fewer : Fault → Type 0} {IsAnswer : Ground → A → Type 0} {IsRefusal : Ground → Fault → Type 0} {l : List Line} {d0 d1 : Drive} (e : Trouble)

@@ -1,13 +1,14 @@
 -- The laws of acts.
-use Rattle.std.proofs.Common.{◌≡◌, ◌≤◌, Bool, true, false, List, [], ◌∷◌, ◌++◌, Option, Some, None, Result, Ok, Err, refl, sym, ◌∙◌, ap, subst, append_assoc, arith, IsTrue, ◌⊎◌, inl, inr, ◌||◌, ◌&&◌}
+use Rattle.std.proofs.Common.{◌≡◌, Bool, true, false, List, [], ◌∷◌, ◌++◌, Option, Some, None, Result, Ok, Err, refl, sym, ◌∙◌, ap, subst, append_assoc, IsTrue, ◌⊎◌, inl, inr, ◌||◌, ◌&&◌}
 use Rattle.std.specs.Prelude.{IsErrAnd, if◌then◌else◌}
 use Rattle.std.proofs.lemmas.Result.{err_from_is_err_and}
 use Rattle.places.specs.All.{Names, Ground}
-use Rattle.file_store.specs.All.{Rose, Drive, History, at_rest, finally, LiesAlong, present}
+use Rattle.file_store.specs.All.{Counts, Rose, Drive, History, at_rest, finally, LiesAlong, present}
 use Rattle.faults.specs.declared.lines.Line.{Line}
 use Rattle.faults.specs.declared.faults.Fault.{Fault}
 use Rattle.faults.specs.declared.faults.Trouble.{Trouble}
 use Rattle.faults.specs.declared.faults.Trouble.TheVariants.{Refused, Device, NoMemory}
+use Rattle.file_store.proofs.Counted.{counts_from}
 use Rattle.file_store.proofs.Moments.{last}
 use Rattle.file_store.proofs.Rounds.{finally-append}
 use Rattle.file_store.proofs.Course.{goes_early, goes_reading, join}
@@ -16,7 +17,7 @@ use Rattle.acts.specs.Acts.{rounds_of, lines_of, rounds_in, lines_in, last_of, i
 use Rattle.acts.specs.Acts.{none_loose, gives, asks, refuses, says, unless, ending_of, follow, cut}
 use Rattle.acts.specs.Acts.{go_on, bind}
 use Rattle.acts.specs.Ends.{IsFirm, Reaches, HasCome, WasRefused, EndsAs, EndsRefused}
-use Rattle.acts.specs.Ends.{Moments, Goes, HasCause, Acts, ActsQuietly, seen}
+use Rattle.acts.specs.Ends.{Moments, Goes, HasCause, Acts, ActsQuietly, seen, is_device}
 use Rattle.acts.proofs.Along.{firm_left, firm_right, wider_goes, arrives, rests_same, rests_kept, rests_joins}
 use Rattle.acts.proofs.Come.{rounds_of-append, lines_of-append, nothing_more, came_all, begins, came_on, came_first, none_said, quiet_came}
 
@@ -102,18 +103,12 @@ bind-gives : {V W : Type 0} (f : Step V) (k : V → Step W) (g : Ground) (v : V)
 unfolding bind
 bind-gives f k g v is = ap (λ e. go_on (f g) e g k) is
 
-cause_over : {V : Type 0} (may : Fault → Type 0) (d0 d1 d2 : Drive) (r : Result V Trouble) → d0.faults ≤ d1.faults → HasCause may d1 d2 r → HasCause may d0 d2 r
-cause_over may d0 d1 d2 (Ok v) up h = h
-cause_over may d0 d1 d2 (Err (Refused fault)) up h = h
-cause_over may d0 d1 d2 (Err Device) up h = omega arith
-cause_over may d0 d1 d2 (Err NoMemory) up h = h
-
 -- SEQUENCE: the first was done, and the second ended
 pub seq : {V W : Type 0} {may : Fault → Type 0} {tells : Bool} {f : Step V} (k : V → Step W) {l0 l1 l2 : List Line} {d0 d1 d2 : Drive} {v : V} {r : Result W Trouble}
     → Acts may tells f l0 l1 d0 d1 (Ok v) → Acts may tells (k v) l1 l2 d1 d2 r → Acts may tells (bind f k) l0 l2 d0 d2 r
 seq {V} {W} {may} {tells} {f} k {l0} {l1} {l2} {d0} {d1} {d2} {v} {r} first second = record {
-  later = omega (arith, first.later, second.later);
-  cause = cause_over may d0 d1 d2 r first.later second.cause;
+  later = counts_from (is_device r) d2.faults first.later second.later;
+  cause = second.cause;
   told = λ t.
       let a = first.told t in
       let is = bind-gives f k (present d0) v a.ends.ending ∙ ap (λ g. follow (f (present d0)) (k v g)) (sym a.ends.reaches.stands) in
@@ -148,17 +143,12 @@ module _ {V W : Type 0} (a : Act V) (d0 d1 : Drive) (l0 l1 : List Line) where
   ends_cut e g k Device is was = tt
   ends_cut e g k NoMemory is was = tt
 
-cause_as : (V W : Type 0) (may : Fault → Type 0) (d0 d1 : Drive) (t : Trouble) → HasCause {V = V} may d0 d1 (Err t) → HasCause {V = W} may d0 d1 (Err t)
-cause_as V W may d0 d1 (Refused fault) h = h
-cause_as V W may d0 d1 Device h = h
-cause_as V W may d0 d1 NoMemory h = h
-
 pub fails : {V W : Type 0} {may : Fault → Type 0} {tells : Bool} {f : Step V} (k : V → Step W) {l0 l1 : List Line} {d0 d1 : Drive} {t : Trouble}
     → Acts may tells f l0 l1 d0 d1 (Err t) → Acts may tells (bind f k) l0 l1 d0 d1 (Err t)
 unfolding bind
 fails {V} {W} {may} {tells} {f} k {l0} {l1} {d0} {d1} {t} first = record {
   later = first.later;
-  cause = cause_as V W may d0 d1 t first.cause;
+  cause = first.cause;
   told = λ told.
       let g = present d0 in
       let a = first.told told in
@@ -170,15 +160,15 @@ fails {V} {W} {may} {tells} {f} k {l0} {l1} {d0} {d1} {t} first = record {
 }
 
 -- OTHER FAULTS: what hands on some faults hands on no others
-handed_cause : {V : Type 0} (may more : Fault → Type 0) → ((fault : Fault) → may fault → more fault) → (d0 d1 : Drive) (r : Result V Trouble) → HasCause may d0 d1 r → HasCause more d0 d1 r
-handed_cause may more f d0 d1 (Ok v) h = h
-handed_cause may more f d0 d1 (Err (Refused fault)) h = f fault h
-handed_cause may more f d0 d1 (Err Device) h = h
-handed_cause may more f d0 d1 (Err NoMemory) h = h
+handed_cause : {V : Type 0} (may more : Fault → Type 0) → ((fault : Fault) → may fault → more fault) → (r : Result V Trouble) → HasCause may r → HasCause more r
+handed_cause may more f (Ok v) h = h
+handed_cause may more f (Err (Refused fault)) h = f fault h
+handed_cause may more f (Err Device) h = h
+handed_cause may more f (Err NoMemory) h = h
 
 pub handed : {V : Type 0} {may more : Fault → Type 0} {tells : Bool} {f : Step V} {l0 l1 : List Line} {d0 d1 : Drive} {r : Result V Trouble}
     → ((fault : Fault) → may fault → more fault) → Acts may tells f l0 l1 d0 d1 r → Acts more tells f l0 l1 d0 d1 r
-handed {V} {may} {more} {tells} {f} {l0} {l1} {d0} {d1} {r} all acts = record { later = acts.later; cause = handed_cause may more all d0 d1 r acts.cause; told = acts.told }
+handed {V} {may} {more} {tells} {f} {l0} {l1} {d0} {d1} {r} all acts = record { later = acts.later; cause = handed_cause may more all r acts.cause; told = acts.told }
 
 -- ATOMS
 pub Reaches-still : {V : Type 0} (e : Ending V) (d0 d1 : Drive) → d1.history ≡ d0.history → Reaches (still e) d0 d1
@@ -214,52 +204,52 @@ refused_still fault l d0 d1 same = record {
 -- want of memory may come anywhere
 pub starved : {V : Type 0} {may : Fault → Type 0} {tells : Bool} {f : Step V} {l : List Line} {d : Drive} → Acts may tells f l l d d (Err NoMemory)
 starved {V} {may} {tells} {f} {l} {d} = record {
-  later = omega arith;
+  later = refl;
   cause = tt;
   told = λ t. record { ends = tt; moments = Moments-none _ d d refl; came = came_none _ l d d refl };
 }
 
 -- a call that only reads: what it gives
 pub asked : {V : Type 0} {may : Fault → Type 0} {tells : Bool} (f : Ground → V) {l : List Line} {d0 d1 : Drive} {v : V}
-    → d0.faults ≤ d1.faults → (IsTrue tells → (d1.history ≡ d0.history) × (v ≡ f (present d0))) → Acts may tells (asks f) l l d0 d1 (Ok v)
+    → d1.faults ≡ d0.faults → (IsTrue tells → (d1.history ≡ d0.history) × (v ≡ f (present d0))) → Acts may tells (asks f) l l d0 d1 (Ok v)
 unfolding asks
-asked {V} {may} {tells} f {l} {d0} {d1} {v} up is = record {
-  later = up;
+asked {V} {may} {tells} f {l} {d0} {d1} {v} stood is = record {
+  later = stood;
   cause = tt;
   told = λ t. subst (λ (w : V). Goes (still (Gives w)) l l d0 d1 (Ok v)) (is t).1 (gave_still v l d0 d1 (is t).0);
 }
 
 -- a call that failed, or found no memory, before it changed anything
 pub failed_early : {V : Type 0} {may : Fault → Type 0} {tells : Bool} {f : Step V} {l : List Line} {d0 d1 : Drive}
-    → d0.faults ≤ d1.faults → Rose d0.faults d1.faults → (IsTrue tells → d1.history ≡ d0.history) → Acts may tells f l l d0 d1 (Err Device)
-failed_early {V} {may} {tells} {f} {l} {d0} {d1} up rose same = record {
-  later = up;
-  cause = rose;
+    → Rose d0.faults d1.faults → (IsTrue tells → d1.history ≡ d0.history) → Acts may tells f l l d0 d1 (Err Device)
+failed_early {V} {may} {tells} {f} {l} {d0} {d1} rose same = record {
+  later = rose;
+  cause = tt;
   told = λ t. record { ends = tt; moments = Moments-none _ d0 d1 (same t); came = came_none _ l d0 d1 (same t) };
 }
 
 pub starved_early : {V : Type 0} {may : Fault → Type 0} {tells : Bool} {f : Step V} {l : List Line} {d0 d1 : Drive}
-    → d0.faults ≤ d1.faults → (IsTrue tells → d1.history ≡ d0.history) → Acts may tells f l l d0 d1 (Err NoMemory)
-starved_early {V} {may} {tells} {f} {l} {d0} {d1} up same = record {
-  later = up;
+    → d1.faults ≡ d0.faults → (IsTrue tells → d1.history ≡ d0.history) → Acts may tells f l l d0 d1 (Err NoMemory)
+starved_early {V} {may} {tells} {f} {l} {d0} {d1} stood same = record {
+  later = stood;
   cause = tt;
   told = λ t. record { ends = tt; moments = Moments-none _ d0 d1 (same t); came = came_none _ l d0 d1 (same t) };
 }
 
 pub done : {V : Type 0} {may : Fault → Type 0} {tells : Bool} {v : V} {l : List Line} {d : Drive} → Acts may tells (gives v) l l d d (Ok v)
 unfolding gives
-done {V} {may} {tells} {v} {l} {d} = record { later = omega arith; cause = tt; told = λ t. gave_still v l d d refl }
+done {V} {may} {tells} {v} {l} {d} = record { later = refl; cause = tt; told = λ t. gave_still v l d d refl }
 
 pub refused : {V : Type 0} {may : Fault → Type 0} {tells : Bool} {fault : Fault} {l : List Line} {d : Drive} → may fault → Acts may tells (refuses {V = V} fault) l l d d (Err (Refused fault))
 unfolding refuses
-refused {V} {may} {tells} {fault} {l} {d} permitted = record { later = omega arith; cause = permitted; told = λ t. refused_still fault l d d refl }
+refused {V} {may} {tells} {fault} {l} {d} permitted = record { later = refl; cause = permitted; told = λ t. refused_still fault l d d refl }
 
 pub said : {may : Fault → Type 0} {tells : Bool} (line : Line) {l m : List Line} {d : Drive} → m ≡ l ++ line ∷ [] → Acts may tells (says line) l m d d (Ok tt)
 unfolding says
 said {may} {tells} line {l} {m} {d} is =
     let reaches : Reaches (says line (present d)) d d = record { stands = refl; rests = rests_same none_loose d.history.latest; kept = λ e. refl; safe = λ e. absurd (cc e) } in
     record {
-      later = omega arith;
+      later = refl;
       cause = tt;
       told = λ t. record {
         ends = record { ending = refl; said = is; reaches = reaches };
@@ -269,29 +259,29 @@ said {may} {tells} line {l} {m} {d} is =
     }
 
 -- a test that refuses, after some reading
-pub passes_on : {may : Fault → Type 0} {tells : Bool} (fault : Ground → Option Fault) {l : List Line} {d0 d1 : Drive} → d0.faults ≤ d1.faults → (IsTrue tells → (d1.history ≡ d0.history) × (fault (present d0) ≡ None)) → Acts may tells (unless fault) l l d0 d1 (Ok tt)
+pub passes_on : {may : Fault → Type 0} {tells : Bool} (fault : Ground → Option Fault) {l : List Line} {d0 d1 : Drive} → d1.faults ≡ d0.faults → (IsTrue tells → (d1.history ≡ d0.history) × (fault (present d0) ≡ None)) → Acts may tells (unless fault) l l d0 d1 (Ok tt)
 unfolding unless
-passes_on {may} {tells} fault {l} {d0} {d1} up is = record {
-  later = up;
+passes_on {may} {tells} fault {l} {d0} {d1} stood is = record {
+  later = stood;
   cause = tt;
   told = λ t. subst (λ (o : Option Fault). Goes (still (ending_of o)) l l d0 d1 (Ok tt)) (sym (is t).1) (gave_still tt l d0 d1 (is t).0);
 }
 
-pub stops_on : {may : Fault → Type 0} {tells : Bool} (fault : Ground → Option Fault) {l : List Line} {d0 d1 : Drive} {own : Fault} → may own → d0.faults ≤ d1.faults
+pub stops_on : {may : Fault → Type 0} {tells : Bool} (fault : Ground → Option Fault) {l : List Line} {d0 d1 : Drive} {own : Fault} → may own → d1.faults ≡ d0.faults
     → (IsTrue tells → (d1.history ≡ d0.history) × (fault (present d0) ≡ Some own)) → Acts may tells (unless fault) l l d0 d1 (Err (Refused own))
 unfolding unless
-stops_on {may} {tells} fault {l} {d0} {d1} {own} permitted up is = record {
-  later = up;
+stops_on {may} {tells} fault {l} {d0} {d1} {own} permitted stood is = record {
+  later = stood;
   cause = permitted;
   told = λ t. subst (λ (o : Option Fault). Goes (still (ending_of o)) l l d0 d1 (Err (Refused own))) (sym (is t).1) (refused_still own l d0 d1 (is t).0);
 }
 
 -- the same where nothing was read
 pub passes : {may : Fault → Type 0} {tells : Bool} (fault : Ground → Option Fault) {l : List Line} {d : Drive} → (IsTrue tells → fault (present d) ≡ None) → Acts may tells (unless fault) l l d d (Ok tt)
-passes fault is = passes_on fault (omega arith) (λ t. (refl, is t))
+passes fault is = passes_on fault refl (λ t. (refl, is t))
 
 pub stops : {may : Fault → Type 0} {tells : Bool} (fault : Ground → Option Fault) {l : List Line} {d : Drive} {own : Fault} → may own → (IsTrue tells → fault (present d) ≡ Some own) → Acts may tells (unless fault) l l d d (Err (Refused own))
-stops fault permitted is = stops_on fault permitted (omega arith) (λ t. (refl, is t))
+stops fault permitted is = stops_on fault permitted refl (λ t. (refl, is t))
 
 -- AN ACT BY ANOTHER NAME: two steps that agree at the ground that stands
 pub same_act : {V : Type 0} {may : Fault → Type 0} {tells : Bool} (f h : Step V) {l0 l1 : List Line} {d0 d1 : Drive} {r : Result V Trouble}
@@ -382,7 +372,7 @@ unfolding bind asks
 reads_first f g = refl
 
 pub after_reading : {V : Type 0} {may : Fault → Type 0} {tells : Bool} {f : Step V} {l0 l1 : List Line} {old mid new : Drive} {r : Result V Trouble}
-    → old.faults ≤ mid.faults → (IsTrue tells → mid.history ≡ old.history) → Acts may tells f l0 l1 mid new r → Acts may tells f l0 l1 old new r
-after_reading {V} {may} {tells} {f} {l0} {l1} {old} {mid} {new} up same acts =
-    let read : Acts may tells (asks {V = Unit {0}} (λ h. tt)) l0 l0 old mid (Ok tt) = asked (λ h. tt) up (λ t. (same t, refl)) in
+    → mid.faults ≡ old.faults → (IsTrue tells → mid.history ≡ old.history) → Acts may tells f l0 l1 mid new r → Acts may tells f l0 l1 old new r
+after_reading {V} {may} {tells} {f} {l0} {l1} {old} {mid} {new} stood same acts =
+    let read : Acts may tells (asks {V = Unit {0}} (λ h. tt)) l0 l0 old mid (Ok tt) = asked (λ h. tt) stood (λ t. (same t, refl)) in
     same_act (bind (asks {V = Unit {0}} (λ h. tt)) (λ _. f)) f (λ t. reads_first f (present old)) (seq (λ _. f) read acts)

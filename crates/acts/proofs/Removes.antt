@@ -1,10 +1,10 @@
 -- A removal, as an act.
-use Rattle.std.proofs.Common.{◌≡◌, inl, inr, ◌≤◌, Bool, true, false, IsTrue, List, [], ◌∷◌, ◌++◌, Ok, Err, refl, sym, ◌∙◌, ap, arith}
+use Rattle.std.proofs.Common.{◌≡◌, inl, inr, Bool, true, false, IsTrue, List, [], ◌∷◌, ◌++◌, Ok, Err, refl, sym, ◌∙◌, ap}
 use Rattle.std.specs.FinMap.{remove}
 use Rattle.places.specs.All.{Names, file_at, stands}
 use Rattle.places.proofs.Grounds.{cases_place, same_ground, file_at-remove_same, file_at-remove_other}
 use Rattle.places.proofs.Standing.{stands-none}
-use Rattle.file_store.specs.All.{Disk, Drive, History, at_rest, MayStep, IsRemoved, IsSynced}
+use Rattle.file_store.specs.All.{Counts, has_failed, Disk, Drive, History, at_rest, MayStep, IsRemoved, IsSynced}
 use Rattle.file_store.specs.All.{synced, present, RemoveEnds, BarrierEnds, GoesAlong, Everywhere}
 use Rattle.file_store.specs.All.{removal_of, trouble_of}
 use Rattle.file_store.specs.declared.errors.FileErr.{FileErr}
@@ -12,6 +12,7 @@ use Rattle.file_store.specs.declared.errors.FileErr.TheVariants.{Failed, Blocked
 use Rattle.file_store.specs.declared.errors.FileErr.TheVariants.{NoMemory as FileNoMemory}
 use Rattle.faults.specs.declared.lines.Line.{Line}
 use Rattle.faults.specs.declared.faults.Trouble.{Trouble}
+use Rattle.file_store.proofs.Counted.{counts_from}
 use Rattle.file_store.proofs.Course.{goes_reading, goes_syncing}
 use Rattle.file_store.proofs.Removals.{removing_starts, removing_in_call, cleared, removing_goes}
 use Rattle.faults.specs.declared.faults.Trouble.TheVariants.{Device, NoMemory}
@@ -47,11 +48,11 @@ module _ (tells : Bool) (p : Names) (d0 d1 : Drive) where
   cut_off_by e goes t ends = record { ends = ends; moments = as_moments e goes; came = came e goes }
 
   -- the removal failed
-  pub remove_fails : (e : FileErr) → d0.faults ≤ d1.faults → RemoveEnds tells p d0 d1 (Err e) → (IsTrue tells → MayStep (IsRemoved p) d0.history d1.history)
+  pub remove_fails : (e : FileErr) → Counts (has_failed {V = Bool} (Err e)) d0.faults d1.faults → RemoveEnds tells p d0 d1 (Err e) → (IsTrue tells → MayStep (IsRemoved p) d0.history d1.history)
       → ActsQuietly (λ fault. NoFault fault) tells (removes p) d0 d1 (Err (trouble_of e))
-  remove_fails Failed up ends step = record { later = up; cause = ends; told = λ t. cut_off_by d1 (run_gone (step t)) Device tt }
-  remove_fails (FileBlocked at) up ends step = absurd ends
-  remove_fails FileNoMemory up ends step = record { later = up; cause = tt; told = λ t. cut_off_by d1 (run_gone (step t)) NoMemory tt }
+  remove_fails Failed rose ends step = record { later = rose; cause = tt; told = λ t. cut_off_by d1 (run_gone (step t)) Device tt }
+  remove_fails (FileBlocked at) same ends step = absurd ends
+  remove_fails FileNoMemory same ends step = record { later = same; cause = tt; told = λ t. cut_off_by d1 (run_gone (step t)) NoMemory tt }
 
   none_there : stands (present d0) p ≡ false → remove (present d0) p ≡ present d0
   none_there none = same_ground _ _ (λ q. elim (cases_place q p) [
@@ -69,9 +70,9 @@ module _ (tells : Bool) (p : Names) (d0 d1 : Drive) where
   }
 
   -- none stood there
-  pub remove_none : d0.faults ≤ d1.faults → RemoveEnds tells p d0 d1 (Ok false) → ActsQuietly (λ fault. NoFault fault) tells (removes p) d0 d1 (Ok false)
-  remove_none up ends = record {
-    later = up;
+  pub remove_none : d1.faults ≡ d0.faults → RemoveEnds tells p d0 d1 (Ok false) → ActsQuietly (λ fault. NoFault fault) tells (removes p) d0 d1 (Ok false)
+  remove_none same ends = record {
+    later = same;
     cause = tt;
     told = λ t. record {
       ends = record { ending = seen false (sym (ends t).1); said = quiet []; reaches = reaches_same (ends t).0 (ends t).1 };
@@ -80,15 +81,15 @@ module _ (tells : Bool) (p : Names) (d0 d1 : Drive) where
     };
   }
 
-  module _ (d2 : Drive) (up : d0.faults ≤ d1.faults) (ends : RemoveEnds tells p d0 d1 (Ok true)) (next_up : d1.faults ≤ d2.faults)
+  module _ (d2 : Drive) (same : d1.faults ≡ d0.faults) (ends : RemoveEnds tells p d0 d1 (Ok true))
       (step : IsTrue tells → MayStep (IsRemoved p) d0.history d1.history) (sync : IsTrue tells → MayStep IsSynced d1.history d2.history) where
     run_safe : IsTrue tells → GoesGone d2
     run_safe t = goes_syncing {mid = d1} (run_gone (step t)) (sync t)
 
-    pub remove_unsafe : (e : FileErr) → BarrierEnds tells d1 d2 (Err e) → ActsQuietly (λ fault. NoFault fault) tells (removes p) d0 d2 (Err (trouble_of e))
-    remove_unsafe Failed kept = record { later = omega arith; cause = omega arith; told = λ t. cut_off_by d2 (run_safe t) Device tt }
-    remove_unsafe (FileBlocked at) kept = absurd kept
-    remove_unsafe FileNoMemory kept = record { later = omega arith; cause = tt; told = λ t. cut_off_by d2 (run_safe t) NoMemory tt }
+    pub remove_unsafe : (e : FileErr) → Counts (has_failed {V = Unit {0}} (Err e)) d1.faults d2.faults → BarrierEnds tells d1 d2 (Err e) → ActsQuietly (λ fault. NoFault fault) tells (removes p) d0 d2 (Err (trouble_of e))
+    remove_unsafe Failed rose kept = record { later = counts_from true d2.faults same rose; cause = tt; told = λ t. cut_off_by d2 (run_safe t) Device tt }
+    remove_unsafe (FileBlocked at) stood kept = absurd kept
+    remove_unsafe FileNoMemory stood kept = record { later = stood ∙ same; cause = tt; told = λ t. cut_off_by d2 (run_safe t) NoMemory tt }
 
     reaches_gone : IsTrue tells → BarrierEnds tells d1 d2 (Ok tt) → Reaches (removes p (present d0)) d0 d2
     unfolding removes
@@ -101,9 +102,9 @@ module _ (tells : Bool) (p : Names) (d0 d1 : Drive) where
           safe = λ e. is ∙ ap (λ (d : Disk). at_rest d.now) (sym is);
         }
 
-    pub remove_safe : BarrierEnds tells d1 d2 (Ok tt) → ActsQuietly (λ fault. NoFault fault) tells (removes p) d0 d2 (Ok true)
-    remove_safe kept = record {
-      later = omega arith;
+    pub remove_safe : d2.faults ≡ d1.faults → BarrierEnds tells d1 d2 (Ok tt) → ActsQuietly (λ fault. NoFault fault) tells (removes p) d0 d2 (Ok true)
+    remove_safe stood kept = record {
+      later = stood ∙ same;
       cause = tt;
       told = λ t. record { ends = record { ending = seen true (sym (ends t).1); said = quiet []; reaches = reaches_gone t kept }; moments = as_moments d2 (run_safe t); came = came d2 (run_safe t) };
     }

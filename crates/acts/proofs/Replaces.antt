@@ -1,11 +1,11 @@
 -- A round of replacements, as an act.
-use Rattle.std.proofs.Common.{◌≡◌, ◌≢◌, ◌⊎◌, inl, inr, ◌≤◌, ℕ, zero, suc, Bool, true, false, IsTrue, List, [], ◌∷◌, ◌++◌, map, Option, Some, None, Result, Ok, Err, refl, sym, ◌∙◌, ap, subst}
+use Rattle.std.proofs.Common.{◌≡◌, ◌≢◌, ◌⊎◌, inl, inr, ℕ, zero, suc, Bool, true, false, IsTrue, List, [], ◌∷◌, ◌++◌, map, Option, Some, None, Result, Ok, Err, refl, sym, ◌∙◌, ap, subst}
 use Rattle.std.specs.FinMap.{remove}
 use Rattle.std.specs.Prelude.{slice_get, if◌then◌else◌}
 use Rattle.std.proofs.lemmas.Bool.{false≢true}
 use Rattle.places.specs.All.{Ground, file_at, Names}
 use Rattle.places.proofs.Grounds.{cases_place, same_ground, file_at-insert_other, file_at-remove_same, file_at-remove_other}
-use Rattle.file_store.specs.All.{Disk, Drive, at_rest, present, Round, with_file, changed}
+use Rattle.file_store.specs.All.{Counts, has_failed, Disk, Drive, at_rest, present, Round, with_file, changed}
 use Rattle.file_store.specs.All.{GoesAlong, removal_of, ReplaceEnds, IsNoTmp, AreApart, replaced}
 use Rattle.file_store.specs.All.{installed, staged, all_replaced, round_of, replacing, first_shut}
 use Rattle.file_store.specs.All.{block_of, trouble_of}
@@ -21,7 +21,7 @@ use Rattle.file_store.proofs.ManyFiles.{replaced-round}
 use Rattle.repository.specs.All.{is_tmp}
 use Rattle.acts.specs.Acts.{none_loose}
 use Rattle.acts.specs.Ends.{IsFirm, Reaches, Gave, WasRefused, EndsAs, Moments, HasCause}
-use Rattle.acts.specs.Ends.{ActsQuietly}
+use Rattle.acts.specs.Ends.{ActsQuietly, is_device}
 use Rattle.acts.specs.Files.{whole_round, put_act, puts, CanReplace, MayBlock}
 use Rattle.acts.proofs.Along.{rests_safe}
 use Rattle.acts.proofs.Come.{begins}
@@ -152,17 +152,23 @@ module _ (tells : Bool) (list : List Replacement) (can : CanReplace list) (d0 d1
       (blocked at (first_shut list (present d0)) was.2)
   ends (Err FileNoMemory) was t = tt
 
-  cause : (r : Result (Unit {0}) FileErr) → ReplaceEnds tells list d0 d1 r → HasCause (λ fault. MayBlock tells fault) d0 d1 (in_trouble r)
+  cause : (r : Result (Unit {0}) FileErr) → ReplaceEnds tells list d0 d1 r → HasCause (λ fault. MayBlock tells fault) (in_trouble r)
   cause (Ok _) was = tt
-  cause (Err Failed) was = was
+  cause (Err Failed) was = tt
   cause (Err (FileBlocked at)) was = was.0
   cause (Err FileNoMemory) was = tt
 
-  pub replaces : (r : Result (Unit {0}) FileErr) → d0.faults ≤ d1.faults → ReplaceEnds tells list d0 d1 r → (IsTrue tells → GoesAlong (IsNoTmp list) (replacing list) d0 d1)
+  counts : (r : Result (Unit {0}) FileErr) → Counts (has_failed r) d0.faults d1.faults → Counts (is_device (in_trouble r)) d0.faults d1.faults
+  counts (Ok _) h = h
+  counts (Err Failed) h = h
+  counts (Err (FileBlocked at)) h = h
+  counts (Err FileNoMemory) h = h
+
+  pub replaces : (r : Result (Unit {0}) FileErr) → Counts (has_failed r) d0.faults d1.faults → ReplaceEnds tells list d0 d1 r → (IsTrue tells → GoesAlong (IsNoTmp list) (replacing list) d0 d1)
       → ActsQuietly (λ fault. MayBlock tells fault) tells (puts list) d0 d1 (in_trouble r)
   unfolding puts
-  replaces r up was goes = record {
-    later = up;
+  replaces r counted was goes = record {
+    later = counts r counted;
     cause = cause r was;
     told = λ t.
         let along = moments (goes t) (first_shut list (present d0)) refl (block_of list (present d0)) in

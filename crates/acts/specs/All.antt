@@ -5,7 +5,7 @@ pub use Rattle.acts.specs.Acts.{lines_of, none_loose, rounds_in, rounds_of, stil
 unfoldable pub use Rattle.acts.specs.Acts.{asks, bind, fold, gives, refuses, says, unless}
 pub use Rattle.acts.specs.Ends.{Acts, ActsAs, ActsQuietly, EndsAs, EndsRefused, Gave, Goes}
 pub use Rattle.acts.specs.Ends.{HasCause, HasCome, IsFirm, IsHalt, Moments, NoFault, Reaches, Rests}
-pub use Rattle.acts.specs.Ends.{WasHalted, WasRefused, seen}
+pub use Rattle.acts.specs.Ends.{WasHalted, WasRefused, is_device, seen}
 pub use Rattle.acts.specs.Files.{CanReplace, MayBlock, makes, put_act, whole_round}
 unfoldable pub use Rattle.acts.specs.Files.{puts, removes}
 pub use Rattle.acts.specs.Reads.{HasRead, ReadAs, Reads}

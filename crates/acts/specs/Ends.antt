@@ -1,8 +1,8 @@
 -- How a call ends that acts.
-use Rattle.std.specs.Prelude.{◌≡◌, ◌⊎◌, ℕ, ◌≤◌, Bool, true, false, IsTrue, List, [], ◌++◌, Option}
+use Rattle.std.specs.Prelude.{◌≡◌, ◌⊎◌, ℕ, Bool, true, false, IsTrue, List, [], ◌++◌, Option}
 use Rattle.std.specs.Prelude.{Result, Ok, Err}
 use Rattle.places.specs.All.{Names, Ground}
-use Rattle.file_store.specs.All.{Rose, Disk, Drive, MayHave, is_open, at_rest, finally, LiesAlong}
+use Rattle.file_store.specs.All.{Counts, Disk, Drive, MayHave, is_open, at_rest, finally, LiesAlong}
 use Rattle.file_store.specs.All.{WasOpen, GoesAlong, present}
 use Rattle.faults.specs.declared.lines.Line.{Line}
 use Rattle.faults.specs.declared.faults.Fault.{Fault}
@@ -81,20 +81,28 @@ pub record Goes {V : Type 0} (act : Act V) (before after : List Line) (old new :
   pub moments : Moments act old new
   pub came : HasCome act before after old new
 
--- The causes that hold whatever the files tell: a fault is one that the call may hand on, and
--- Device comes only where a count of faults rose.
-abbrev pub HasCause : {V : Type 0} → (Fault → Type 0) → Drive → Drive → Result V Trouble → Type 0
-HasCause may old new (Ok v) = Unit {0}
-HasCause may old new (Err (Refused fault)) = may fault
-HasCause may old new (Err Device) = Rose old.faults new.faults
-HasCause may old new (Err NoMemory) = Unit {0}
+-- Whether a call answers that a device failed.
+abbrev pub is_device : {V : Type 0} → Result V Trouble → Bool
+is_device (Ok v) = false
+is_device (Err (Refused fault)) = false
+is_device (Err Device) = true
+is_device (Err NoMemory) = false
 
--- THE ONE CONTRACT of a call that acts: the count of faults doesn't fall, each answer has its cause
--- and, where the files tell, the call goes as its step says at the ground from which it starts.
+-- The cause of a refusal, which holds whatever the files tell: its fault is one that the call may
+-- hand on.
+abbrev pub HasCause : {V : Type 0} → (Fault → Type 0) → Result V Trouble → Type 0
+HasCause may (Ok v) = Unit {0}
+HasCause may (Err (Refused fault)) = may fault
+HasCause may (Err Device) = Unit {0}
+HasCause may (Err NoMemory) = Unit {0}
+
+-- THE ONE CONTRACT of a call that acts: the count of faults rose where it answers that a device
+-- failed and stands where it answers anything else, a refusal has its cause and, where the files
+-- tell, the call goes as its step says at the ground from which it starts.
 pub record Acts {V : Type 0} (may : Fault → Type 0) (tells : Bool) (step : Ground → Act V)
     (before after : List Line) (old new : Drive) (result : Result V Trouble) : Type 0 where
-  pub later : old.faults ≤ new.faults
-  pub cause : HasCause may old new result
+  pub later : Counts (is_device result) old.faults new.faults
+  pub cause : HasCause may result
   pub told : IsTrue tells → Goes (step (present old)) before after old new result
 
 -- The same of a call that says nothing.
@@ -130,7 +138,7 @@ pub record WasHalted {V : Type 0} (before after : List Line) (old new : Drive)
 pub record ActsAs {V : Type 0} (may : Fault → Type 0) (tells : Bool)
     (IsAct : Ground → Act V → Type 0)
     (before after : List Line) (old new : Drive) (result : Result V Trouble) : Type 0 where
-  pub later : old.faults ≤ new.faults
-  pub cause : HasCause may old new result
+  pub later : Counts (is_device result) old.faults new.faults
+  pub cause : HasCause may result
   pub told : IsTrue tells → WasHalted before after old new result
       ⊎ ((act : Act V) × IsAct (present old) act × Goes act before after old new result)

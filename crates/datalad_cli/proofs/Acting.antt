@@ -9,7 +9,8 @@ use Rattle.faults.specs.declared.faults.Fault.TheVariants.{NotADataset}
 use Rattle.faults.specs.declared.faults.Trouble.TheVariants.{Refused, Device, NoMemory}
 use Rattle.git_objects.specs.declared.ids.Id.{Id}
 use Rattle.acts.specs.All.{Act, Ending, Gives, Refuses, Breaks, Acts, ActsAs, EndsRefused, Goes}
-use Rattle.acts.specs.All.{HasCause, IsHalt, Reaches, still}
+use Rattle.acts.specs.All.{HasCause, IsHalt, Reaches, is_device, still}
+use Rattle.file_store.proofs.Counted.{counts_from}
 use Rattle.acts.proofs.Laws.{after_reading}
 use Rattle.recursive_save.specs.All.{AreSaveLines, IsSave, MaySave, SaveSays, dataset_line}
 use Rattle.datalad_cli.specs.Commands.{Save, IsActAt, IsActOf, MayAnswer, ending_only}
@@ -18,26 +19,21 @@ use Rattle.datalad_cli.specs.Commands.{wish_of}
 use Rattle.datalad_cli.specs.Finding.{root_at}
 
 -- A CALL AFTER A READING
-more_cause : (V W : Type 0) (may more : Fault → Type 0) → ((fault : Fault) → may fault → more fault) → (d0 d1 d2 : Drive) (t : Trouble) → d0.faults ≤ d1.faults
-    → HasCause {V = V} may d1 d2 (Err t) → HasCause {V = W} more d0 d2 (Err t)
-more_cause V W may more f d0 d1 d2 (Refused fault) up h = f fault h
-more_cause V W may more f d0 d1 d2 Device up h = omega arith
-more_cause V W may more f d0 d1 d2 NoMemory up h = h
-
-late_cause : {V : Type 0} (may : Fault → Type 0) (d0 d1 d2 : Drive) (r : Result V Trouble) → d0.faults ≤ d1.faults → HasCause may d1 d2 r → HasCause may d0 d2 r
-late_cause {V} may d0 d1 d2 (Ok v) up h = h
-late_cause {V} may d0 d1 d2 (Err t) up h = more_cause V V may may (λ fault h. h) d0 d1 d2 t up h
+more_cause : (V W : Type 0) (may more : Fault → Type 0) → ((fault : Fault) → may fault → more fault) → (t : Trouble) → HasCause {V = V} may (Err t) → HasCause {V = W} more (Err t)
+more_cause V W may more f (Refused fault) h = f fault h
+more_cause V W may more f Device h = h
+more_cause V W may more f NoMemory h = h
 
 pub as_after : {V : Type 0} {may : Fault → Type 0} {tells : Bool} {IsAct : Ground → Act V → Type 0} {l0 l1 : List Line} {old mid new : Drive} {r : Result V Trouble}
-    → old.faults ≤ mid.faults → (IsTrue tells → mid.history ≡ old.history) → ActsAs may tells IsAct l0 l1 mid new r → ActsAs may tells IsAct l0 l1 old new r
-as_after {V} {may} {tells} {IsAct} {l0} {l1} {old} {mid} {new} {r} up same acts = record {
-  later = omega (arith, acts.later);
-  cause = late_cause may old mid new r up acts.cause;
+    → mid.faults ≡ old.faults → (IsTrue tells → mid.history ≡ old.history) → ActsAs may tells IsAct l0 l1 mid new r → ActsAs may tells IsAct l0 l1 old new r
+as_after {V} {may} {tells} {IsAct} {l0} {l1} {old} {mid} {new} {r} stood same acts = record {
+  later = counts_from (is_device r) new.faults stood acts.later;
+  cause = acts.cause;
   told = λ t. elim (acts.told t) [
     | inl halt ↦ inl (record { why = halt.why; said = halt.said; kept = halt.kept ∙ same t })
     | inr one ↦ inr (
         let here : Acts may tells (λ g. one.0) l0 l1 mid new r = record { later = acts.later; cause = acts.cause; told = λ t. one.2 } in
-        let all : Acts may tells (λ g. one.0) l0 l1 old new r = after_reading up same here in
+        let all : Acts may tells (λ g. one.0) l0 l1 old new r = after_reading stood same here in
         (one.0, subst (λ (g : Ground). IsAct g one.0) (ap (λ (h : History). h.latest.now) (same t)) one.1, all.told t))
   ];
 }
@@ -107,7 +103,7 @@ module _ (cwd : Names) (message : List ℕ) (moment : ℕ) (root : Names) (at : 
   pub save_failed : (t : Trouble) → Saves (Err t) → Does (Err t)
   save_failed e acts = record {
     later = acts.later;
-    cause = more_cause (Option Id) (Unit {0}) (λ fault. MaySave tells root fault) (λ fault. MayAnswer tells (Save cwd message moment) fault) (λ fault may. inr (root, at, may)) d0 d0 d1 e (omega arith) acts.cause;
+    cause = more_cause (Option Id) (Unit {0}) (λ fault. MaySave tells root fault) (λ fault. MayAnswer tells (Save cwd message moment) fault) (λ fault may. inr (root, at, may)) e acts.cause;
     told = λ t. elim (acts.told t) [
       | inl halt ↦ inl (record { why = same_halt (Option Id) (Unit {0}) e halt.why; said = halt.said; kept = halt.kept })
       | inr one ↦ inr (without_value one.0, act_at (present d0) one.0 (found t) one.1, goes_err one.0 d0 d1 l0 l1 e one.2)

@@ -1,7 +1,7 @@
 -- A command's act, printed.
 use Rattle.std.proofs.Common.{◌≡◌, inl, inr, ℕ, Bool, IsTrue, List, [], ◌++◌, Result, Ok, Err, refl, sym, ◌∙◌, ap, subst, arith}
 use Rattle.std.proofs.lemmas.List.{take-append-le}
-use Rattle.file_store.specs.All.{Drive, Tape, present}
+use Rattle.file_store.specs.All.{Counts, Drive, Tape, present}
 use Rattle.faults.specs.All.{fault_text}
 use Rattle.faults.specs.declared.lines.Line.{Line}
 use Rattle.faults.specs.declared.faults.Fault.{Fault}
@@ -10,12 +10,12 @@ use Rattle.faults.specs.declared.faults.Trouble.TheVariants.{Refused as RefusedB
 use Rattle.faults.specs.declared.faults.Trouble.TheVariants.{Device as ByDevice}
 use Rattle.faults.specs.declared.faults.Trouble.TheVariants.{NoMemory as ByMemory}
 use Rattle.acts.specs.All.{Act, Ending, Gives, Refuses, Breaks, ActsAs, Reaches, HasCome}
-use Rattle.acts.specs.All.{EndsRefused, EndsAs, HasCause, IsHalt, WasHalted}
+use Rattle.acts.specs.All.{EndsRefused, EndsAs, HasCause, IsHalt, WasHalted, is_device}
 use Rattle.datalad_cli.specs.Answer.{lines_text}
 use Rattle.datalad_cli.specs.Commands.{Command, IsActOf, MayAnswer}
 use Rattle.datalad_cli.specs.Decides.{HasFault, MayEnd, CommandSays}
 use Rattle.datalad_cli.specs.Reports.{Failure, Heard, Tapes, Says, SaysPart, TookPart, ReportEnds}
-use Rattle.datalad_cli.specs.Reports.{of_device, of_memory, outcome_text}
+use Rattle.datalad_cli.specs.Reports.{OutputCounts, of_device, of_memory, outcome_text}
 use Rattle.datalad_cli.specs.Ends.{World, Telling, ending_text, WasCutOff, StatusEnds, EndsHalted}
 use Rattle.datalad_cli.specs.Ends.{CommandEnds, RefusesSoundly, StatusCause}
 use Rattle.datalad_cli.specs.declared.status.Status.{Status}
@@ -97,14 +97,17 @@ module _ (heard : Heard) (lines : List Line) (old new : World) (r : Result (Unit
 module _ (telling : Telling) (command : Command) (lines : List Line) (old new : World) (r : Result (Unit {0}) Trouble)
     (acts : ActsAs (λ fault. MayAnswer telling.files command fault) telling.files (λ g act. IsActOf command g act) [] lines old.drive new.drive r)
     (follows : Follows command old.drive new.drive) where
-  cause_of : (s : Status) → ReportEnds telling.heard lines r old.tapes new.tapes s → StatusCause old new s
-  cause_of Done h = tt
-  cause_of (Refused fault) h = tt
-  cause_of Device (why, says) =
-      elim why [ inl is ↦ inl (subst (λ (r : Result (Unit {0}) Trouble). HasCause (λ fault. MayAnswer telling.files command fault) old.drive new.drive r) is acts.cause) | inr rose ↦ inr rose ]
-  cause_of NoMemory h = tt
-  cause_of (Usage at) h = h
-  cause_of (CommandFailed got) h = h
+  -- the count of the files, by the outcome
+  counts : (outcome : Result (Unit {0}) Trouble) → r ≡ outcome → Counts (is_device outcome) old.drive.faults new.drive.faults
+  counts outcome is = subst (λ (r : Result (Unit {0}) Trouble). Counts (is_device r) old.drive.faults new.drive.faults) is acts.later
+
+  cause_of : (s : Status) → OutputCounts s old.tapes.out new.tapes.out → OutputCounts s old.tapes.err new.tapes.err → ReportEnds telling.heard lines r old.tapes new.tapes s → StatusCause old new s
+  cause_of Done out err (is, says) = record { files = counts (Ok tt) is; out = out; err = err }
+  cause_of (Refused fault) out err (is, says) = record { files = counts (Err (RefusedBy fault)) is; out = out; err = err }
+  cause_of Device out err (why, says) = elim why [ inl is ↦ inl (counts (Err ByDevice) is) | inr rose ↦ inr rose ]
+  cause_of NoMemory out err h = tt
+  cause_of (Usage at) out err h = h
+  cause_of (CommandFailed got) out err h = h
 
   -- a refusal that was printed is one of the act
   soundly : IsTrue telling.files → (act : Act (Unit {0})) → IsActOf command (present old.drive) act → EndsAs act [] lines old.drive new.drive r
@@ -112,7 +115,7 @@ module _ (telling : Telling) (command : Command) (lines : List Line) (old new : 
   soundly t act own ends Done h = tt
   soundly t act own ends (Refused fault) (is, says) = λ sound.
       let was = subst (λ (r : Result (Unit {0}) Trouble). EndsAs act [] lines old.drive new.drive r) is ends in
-      let may = subst (λ (r : Result (Unit {0}) Trouble). HasCause (λ fault. MayAnswer telling.files command fault) old.drive new.drive r) is acts.cause in
+      let may = subst (λ (r : Result (Unit {0}) Trouble). HasCause (λ fault. MayAnswer telling.files command fault) r) is acts.cause in
       follows.refused act fault own was.ending (subst (λ (b : Bool). MayAnswer b command fault) t may) sound
   soundly t act own ends Device h = tt
   soundly t act own ends NoMemory h = tt
@@ -120,9 +123,9 @@ module _ (telling : Telling) (command : Command) (lines : List Line) (old new : 
   soundly t act own ends (CommandFailed got) h = h
 
   -- ONE LAW for all commands
-  pub prints : (s : Status) → ReportEnds telling.heard lines r old.tapes new.tapes s → CommandEnds telling command old new s
-  prints s report = record {
-    cause = cause_of s report;
+  pub prints : (s : Status) → OutputCounts s old.tapes.out new.tapes.out → OutputCounts s old.tapes.err new.tapes.err → ReportEnds telling.heard lines r old.tapes new.tapes s → CommandEnds telling command old new s
+  prints s out err report = record {
+    cause = cause_of s out err report;
     told = λ t. elim (acts.told t) [
       | inl halt ↦ inl (halt_ends telling.heard lines old new r halt s report)
       | inr one ↦ inr (
@@ -140,11 +143,11 @@ module _ (telling : Telling) (command : Command) (lines : List Line) (old new : 
   }
 
 -- the faults of an outcome
-pub fault_of : (tells : Bool) (command : Command) (d0 d1 : Drive) (r : Result (Unit {0}) Trouble) → HasCause (λ fault. MayAnswer tells command fault) d0 d1 r → HasFault tells command r
-fault_of tells command d0 d1 (Ok _) h = tt
-fault_of tells command d0 d1 (Err (RefusedBy fault)) h = h
-fault_of tells command d0 d1 (Err ByDevice) h = tt
-fault_of tells command d0 d1 (Err ByMemory) h = tt
+pub fault_of : (tells : Bool) (command : Command) (r : Result (Unit {0}) Trouble) → HasCause (λ fault. MayAnswer tells command fault) r → HasFault tells command r
+fault_of tells command (Ok _) h = tt
+fault_of tells command (Err (RefusedBy fault)) h = h
+fault_of tells command (Err ByDevice) h = tt
+fault_of tells command (Err ByMemory) h = tt
 
 -- what a command says, whatever the files tell
 pub command_says : (t : Telling) (command : Command) (old new : World) (lines : List Line) (outcome : Result (Unit {0}) Trouble) (status : Status)

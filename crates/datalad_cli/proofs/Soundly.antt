@@ -1,13 +1,13 @@
 -- A command keeps a sound ground sound, and is refused there for nothing that the program has left; it has one act.
 use Rattle.std.proofs.Common.{◌≡◌, ◌⊎◌, inl, inr, ℕ, ◌<◌, ◌^◌, true, false, List, Option, Some, None, refl, sym, ap, ◌∙◌, subst}
-use Rattle.places.specs.All.{Names, Ground, has_name, stands}
+use Rattle.places.specs.All.{Names, Ground, has_name}
 use Rattle.faults.specs.declared.faults.Fault.{Fault}
 use Rattle.faults.specs.declared.faults.Fault.TheVariants.{BadPath, NotADataset}
 use Rattle.file_store.specs.All.{Drive, present}
 use Rattle.git_objects.specs.declared.ids.Id.{Id}
-use Rattle.repository.specs.All.{dlrepo, head_place, is_tmp}
+use Rattle.repository.specs.All.{dlrepo}
 use Rattle.acts.specs.All.{Act, Ending, Gives, Refuses, Breaks, EndsRefused, refuses, still}
-use Rattle.dataset.specs.All.{IsDataset, IsSettled, Sound, StaysSound}
+use Rattle.dataset.specs.All.{IsSettled, Sound, StaysSound}
 use Rattle.recursive_save.specs.All.{CreateKeepsSound, SaveKeepsSound, SaveIsComplete, SaveIsOne}
 use Rattle.recursive_save.specs.All.{new_dataset, create_step, IsSoundEnding, IsSoundRefusal}
 use Rattle.datalad_cli.specs.Commands.{Create, Save, HasOneAct, IsActAt, creates, ending_only, wish_of}
@@ -31,12 +31,6 @@ module _ (made : CreateKeepsSound) (moment : ℕ) (dated : moment < 2 ^ 64) (fre
   create_sound o clear act is = subst (λ (a : Act (Unit {0})). KeepsSound (Create o moment fresh) a old new) (sym is) (of_root o clear)
 
 -- A SAVE
-head_firm : (root : Names) → is_tmp (head_place root) ≡ false
-head_firm root = ?
-
-is_dataset : (cwd root : Names) (g : Ground) → root_at cwd g ≡ Some root → IsDataset root g
-is_dataset cwd root g found = record { head = head_stands g cwd root found; outside = head_firm root }
-
 module _ (kept : SaveKeepsSound) (cwd : Names) (message : List ℕ) (moment : ℕ) (old new : Drive) (sound : Sound (present old)) (settled : IsSettled old.history.latest) where
   stays_at : (o : Option Names) (act : Act (Unit {0})) → root_at cwd (present old) ≡ o → IsActAt cwd (wish_of message moment) (present old) o act → StaysSound act old new
   stays_at None act found is = subst (λ (a : Act (Unit {0})). StaysSound a old new) (sym is) (still_stays (Refuses (NotADataset cwd)) old new sound settled)
@@ -44,7 +38,7 @@ module _ (kept : SaveKeepsSound) (cwd : Names) (message : List ℕ) (moment : �
       let saved : Act (Option Id) = is.0 in
       subst (λ (a : Act (Unit {0})). StaysSound a old new) (sym is.2)
       (cut_stays saved (ending_only saved.ending) old new
-      (kept root (wish_of message moment) saved old new (record { outside = (sound root (is_dataset cwd root (present old) found)).outside; sound = sound; settled = settled }) is.1))
+      (kept root (wish_of message moment) saved old new (record { outside = (sound root (head_stands (present old) cwd root found)).outside; sound = sound; settled = settled }) is.1))
 
 pub save_sound : SaveKeepsSound → (cwd : Names) (message : List ℕ) (moment : ℕ) (old new : Drive) (act : Act (Unit {0}))
     → IsActAt cwd (wish_of message moment) (present old) (root_at cwd (present old)) act → KeepsSound (Save cwd message moment) act old new
@@ -64,7 +58,7 @@ module _ (complete : SaveIsComplete) (cwd : Names) (message : List ℕ) (moment 
       inl (sym own.0)
   refused_at (Some root) act found is ends sound =
       let own = subst (λ (a : Act (Unit {0})). EndsRefused a.ending fault X) is.2 ends in
-      inr (sound_refusal (is.0).ending fault X (complete root (wish_of message moment) g is.0 sound (is_dataset cwd root g found) is.1) own)
+      inr (sound_refusal (is.0).ending fault X (complete root (wish_of message moment) g is.0 sound (head_stands g cwd root found) is.1) own)
 
   pub save_refused : (act : Act (Unit {0})) → IsActAt cwd (wish_of message moment) g (root_at cwd g) act → EndsRefused act.ending fault X → Sound g → (fault ≡ NotADataset cwd) ⊎ IsSoundRefusal fault
   save_refused act is ends sound = refused_at (root_at cwd g) act refl is ends sound

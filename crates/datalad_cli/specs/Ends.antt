@@ -11,7 +11,7 @@ use Rattle.datalad_cli.specs.Answer.{lines_text}
 use Rattle.datalad_cli.specs.Commands.{Command, IsActOf, HasOneAct, Leaves, CanKeep, IsSoundFault}
 use Rattle.datalad_cli.specs.Commands.{Reading, Misread, Asks}
 use Rattle.datalad_cli.specs.Reports.{Failure, Heard, Tapes, Says, SaysPart, SomeRose, UsageEnds}
-use Rattle.datalad_cli.specs.Reports.{of_device, of_memory}
+use Rattle.datalad_cli.specs.Reports.{OutputCounts, WasUnhindered, of_device, of_memory}
 use Rattle.datalad_cli.specs.declared.status.Status.{Status}
 use Rattle.datalad_cli.specs.declared.status.Status.TheVariants.{Done, Refused, Usage, NoMemory}
 use Rattle.datalad_cli.specs.declared.status.Status.TheVariants.{Device, CommandFailed}
@@ -79,10 +79,17 @@ EndsHalted heard old new (Refused fault) = ⊥
 EndsHalted heard old new (Usage at) = ⊥
 EndsHalted heard old new (CommandFailed got) = ⊥
 
--- The cause of a command's status, whatever the files tell: for Device, a count of faults rose.
+-- No device failed, and no output found no memory.
+pub record NoneFailed (old new : World) : Type 0 where
+  pub files : new.drive.faults ≡ old.drive.faults
+  pub out : WasUnhindered old.tapes.out new.tapes.out
+  pub err : WasUnhindered old.tapes.err new.tapes.err
+
+-- The cause of a command's status, whatever the files tell: for Device, a count of faults rose; for
+-- Done and a refusal, none did.
 abbrev pub StatusCause : World → World → Status → Type 0
-StatusCause old new Done = Unit {0}
-StatusCause old new (Refused fault) = Unit {0}
+StatusCause old new Done = NoneFailed old new
+StatusCause old new (Refused fault) = NoneFailed old new
 StatusCause old new Device =
     Rose old.drive.faults new.drive.faults ⊎ SomeRose old.tapes new.tapes
 StatusCause old new NoMemory = Unit {0}
@@ -137,6 +144,7 @@ pub record CommandEnds (telling : Telling) (command : Command) (old new : World)
 abbrev pub CallEnds : Telling → Reading → World → World → Status → Type 0
 CallEnds telling (Misread at) old new status =
     (new.drive ≡ old.drive) × (new.tapes.out ≡ old.tapes.out)
+    × OutputCounts status old.tapes.err new.tapes.err
     × UsageEnds telling.heard.err at old.tapes.err new.tapes.err status
 CallEnds telling (Asks command) old new status =
     CommandEnds telling command old new status

@@ -3,7 +3,7 @@ ghost use Rattle.std.specs.Prelude.{◌≡◌, IsTrue, IfOk, string_bytes};
 ghost use Rattle.faults.specs.All.{line_text as line_of};
 ghost use Rattle.file_store.specs.All.{IsLater};
 ghost use Rattle.datalad_cli.specs.Answer.{lines_text as lines_of, device_text, memory_text, usage_text as usage_of};
-ghost use Rattle.datalad_cli.specs.Reports.{TookText, UsageEnds, RefusalEnds, ReportEnds};
+ghost use Rattle.datalad_cli.specs.Reports.{TookText, OutputCounts, UsageEnds, RefusalEnds, ReportEnds};
 ghost use Rattle.datalad_cli.specs.declared.status.Status.TheVariants.{Device, NoMemory};
 
 use crate::status::Status;
@@ -60,7 +60,7 @@ fn starved<S: Sink>(sink: &mut S) -> Status
 
 /// The ending of words that have no reading.
 pub(crate) fn say_usage<S: Sink>(alloc: Global, sink: &mut S, at: u64) -> Status
-    ensures later { IsLater (S.tape sink.old) (S.tape sink.new) }
+    ensures later { OutputCounts result (S.tape sink.old) (S.tape sink.new) }
     ensures ends { UsageEnds S.tells at (S.tape sink.old) (S.tape sink.new) result }
 {
     match usage_text(alloc, at) {
@@ -75,7 +75,7 @@ pub(crate) fn say_usage<S: Sink>(alloc: Global, sink: &mut S, at: u64) -> Status
 
 // The ending of a refused command.
 fn say_refused<S: Sink>(alloc: Global, sink: &mut S, fault: Fault) -> Status
-    ensures later { IsLater (S.tape sink.old) (S.tape sink.new) }
+    ensures later { OutputCounts result (S.tape sink.old) (S.tape sink.new) }
     ensures ends { RefusalEnds S.tells fault (S.tape sink.old) (S.tape sink.new) result }
 {
     match fault_text(alloc, &fault) {
@@ -96,8 +96,8 @@ pub(crate) fn report<O: Sink, E: Sink>(
     lines: &[Line],
     outcome: Result<(), Trouble>,
 ) -> Status
-    ensures out_later { IsLater (O.tape out.old) (O.tape out.new) }
-    ensures err_later { IsLater (E.tape err.old) (E.tape err.new) }
+    ensures out_later { OutputCounts result (O.tape out.old) (O.tape out.new) }
+    ensures err_later { OutputCounts result (E.tape err.old) (E.tape err.new) }
     ensures ends { ReportEnds (record { out = O.tells; err = E.tells }) lines.now outcome
         (record { out = O.tape out.old; err = E.tape err.old })
         (record { out = O.tape out.new; err = E.tape err.new }) result }

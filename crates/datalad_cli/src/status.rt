@@ -3,7 +3,8 @@ ghost use Rattle.std.specs.Prelude.{◌≡◌};
 
 use faults::Fault;
 
-/// How a call ended. A device failed only where a count of faults rose.
+/// How a call ended. A device failed only where a count of faults rose, and Done, Refused and Usage come only where
+/// none did.
 #[derive(Debug, Drop)]
 pub enum Status {
     Done,

@@ -110,7 +110,7 @@ fn laws(alloc: Global)
 /// the start, exactly what is left, printed and answered, and what stands and what a crash leaves at every moment: the
 /// disk lies between two neighbours among the act's grounds; a sound ground stays sound, with the heads of one of them and
 /// no object lost. What depends on the words alone is said by `words` whatever they tell. A device fails only where a
-/// count of faults rose.
+/// count of faults rose, and Done, Refused and Usage come only where none did.
 pub fn datalad<F: Files, O: Sink, E: Sink>(
     alloc: Global,
     words: &[String],

@@ -11,7 +11,7 @@ use Rattle.git_objects.specs.All.{IsId, hex_of, oid}
 use Rattle.git_objects.specs.declared.ids.Id.{Id}
 use Rattle.repository.specs.All.{head_in, head_of, id_in, id_text, ref_text, is_branch, dlrepo}
 use Rattle.repository.specs.All.{repo_of, head_place, settings_place, branch_place, object_names}
-use Rattle.repository.specs.All.{object_place, tmp_names}
+use Rattle.repository.specs.All.{object_place}
 use Rattle.repository.proofs.Holds.{held_is}
 use Rattle.object_store.specs.All.{with_objects}
 use Rattle.object_store.specs.declared.objects.NewObject.{NewObject}
@@ -20,7 +20,7 @@ use Rattle.dataset.specs.Whole.{Has, IsWhole}
 use Rattle.dataset.specs.Sound.{HasSoundObjects, IsSoundAt, Sound, HoldsAll}
 use Rattle.dataset.specs.Rounds.{LiesWatched, IsIntact, KeepsSound, AllKeepSound, CanPut}
 use Rattle.dataset.specs.Births.{bare_round, birth_rounds, IsBirth, IsBorn}
-use Rattle.dataset.proofs.Splits.{head_names, is_head_name, AreBare, no_head_at, split_once, is_watched_name, watched_at, head_is_watched, head_no_tmp, head_watched, object_watched, settings_watched, tmp_watched, branch_plain, branch_watched}
+use Rattle.dataset.proofs.Splits.{head_names, is_head_name, AreBare, no_head_at, split_once, is_watched_name, watched_at, head_is_watched, head_watched, object_watched, settings_watched, tmp_watched, branch_plain, branch_watched}
 use Rattle.repository.proofs.HeadTexts.{id_in-text}
 use Rattle.dataset.proofs.Heading.{now_named}
 use Rattle.dataset.proofs.Wholes.{whole_stays, whole_is_id}
@@ -62,14 +62,14 @@ module _ (root : Names) (round : Round) (g : Ground) (outside : IsRoot root) (un
 
     unborn_head : head_of x (repo_of root) ≡ head_of g (repo_of root)
     unborn_head =
-        ap (head_in (λ name. file_at x (branch_place (repo_of root) name))) (head_same root (head_is_watched root (head_no_tmp root outside)) ∙ unborn)
+        ap (head_in (λ name. file_at x (branch_place (repo_of root) name))) (head_same root (head_is_watched root) ∙ unborn)
         ∙ sym (ap (head_in (λ name. file_at g (branch_place (repo_of root) name))) unborn)
 
     unborn_intact : Sound g → IsIntact g (changed round g) x
     unborn_intact sound = record {
       sound = λ s is.
-          let there = ap is_some (sym (head_same s (head_is_watched s is.outside))) ∙ is.head in
-          let at = sound s (record { head = there; outside = is.outside }) in
+          let there = ap is_some (sym (head_same s (head_is_watched s))) ∙ is in
+          let at = sound s there in
           let differ : s ≢ root = λ e. false≢true (sym (ap is_some unborn) ∙ ap (λ (r : Names). is_some (file_at g (head_place r))) (sym e) ∙ there) in
           grown s g x (other_same s at.outside differ) (held_in (repo_of s) g x (object_same s at.outside)) (objects_as (repo_of s) g x (object_same s at.outside) at.objects) at;
       heads = inl (λ s apart. elim (cases_place s root) [
@@ -228,7 +228,9 @@ module _ (root : Names) (objects : List NewObject) (work : Round) (settings name
       stands = third_other root (codes "config" ∷ []) birth.outside refl ∙ second_settings (settings_place root) (watched_at root (codes "config" ∷ []) birth.outside settings_watched) refl;
       valid = birth.valid;
     };
-    tmp = third_first tmp_names tmp_watched refl refl refl ∙ first_none tmp_names tmp_watched refl;
+    tmp = λ names firm.
+        let watched = tmp_watched root names birth.outside firm in
+        third_first (codes "tmp" ∷ names) watched refl refl refl ∙ first_none (codes "tmp" ∷ names) watched refl;
     outside = birth.outside;
   }
 
@@ -238,8 +240,8 @@ module _ (root : Names) (objects : List NewObject) (work : Round) (settings name
         let same : s ≡ root = append_cancel_right s root (dlrepo ∷ []) (append_cancel_right (repo_of s) repo head_names e) in
         subst (λ (r : Names). IsSoundAt r third) (sym same) own_sound
     | inr other ↦
-        let there = ap is_some (sym (file_at-insert_other second (head_place root) (ref_text name) (head_place s) other)) ∙ is.head in
-        let at = sound s (record { head = there; outside = is.outside }) in
+        let there = ap is_some (sym (file_at-insert_other second (head_place root) (ref_text name) (head_place s) other)) ∙ is in
+        let at = sound s there in
         let differ : s ≢ root = λ e. other (ap (λ (r : Names). head_place r) e) in
         grown s second third
         (λ names watched object. file_at-insert_other second (head_place root) (ref_text name) (repo_of s ++ names) (λ e. differ (split_once s root names head_names at.outside birth.outside e).0))

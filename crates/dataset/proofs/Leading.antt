@@ -6,7 +6,7 @@ use Rattle.places.specs.All.{Names, pieces, Ground, file_at}
 use Rattle.places.proofs.Grounds.{cases_place, file_at-insert_same, file_at-insert_other}
 use Rattle.git_objects.specs.All.{IsId, hex_of}
 use Rattle.repository.specs.All.{Head, head_in, head_of, id_in, id_text, is_branch, repo_of}
-use Rattle.repository.specs.All.{head_place, branch_place, object_names, object_place, tmp_names}
+use Rattle.repository.specs.All.{head_place, branch_place, object_names, object_place}
 use Rattle.dataset.specs.Watched.{IsRoot}
 use Rattle.dataset.specs.Whole.{IsWhole}
 use Rattle.dataset.specs.Sound.{IsDataset, HasSoundHeads, IsSoundAt, Sound, HoldsAll}
@@ -56,7 +56,7 @@ module _ (root leads : Names) (text : List ℕ) (g : Ground) (outside : IsRoot r
       stands = elsewhere (repo_of root ++ codes "config" ∷ []) (not_there root (codes "config" ∷ []) outside refl) ∙ at.settings.stands;
       valid = at.settings.valid;
     };
-    tmp = elsewhere (repo_of root ++ tmp_names) (not_there root tmp_names outside refl) ∙ at.tmp;
+    tmp = λ names firm. elsewhere (repo_of root ++ codes "tmp" ∷ names) (not_there root (codes "tmp" ∷ names) outside refl) ∙ at.tmp names firm;
     outside = outside;
   }
 
@@ -120,8 +120,8 @@ module _ (root : Names) (head : Head) (g : Ground) (outside : IsRoot root) (can 
 
   was_dataset : (s : Names) → IsDataset s led → IsDataset s g
   was_dataset s is = elim (cases_place (head_place s) (head_place root)) [
-    | inl e ↦ record { head = ap (λ (q : Names). is_some (file_at g q)) e ∙ can.dataset.head; outside = is.outside }
-    | inr other ↦ record { head = ap is_some (sym (file_at-insert_other g (head_place root) text (head_place s) other)) ∙ is.head; outside = is.outside }
+    | inl e ↦ ap (λ (q : Names). is_some (file_at g q)) e ∙ can.dataset
+    | inr other ↦ ap is_some (sym (file_at-insert_other g (head_place root) text (head_place s) other)) ∙ is
   ]
 
   pub is_led : IsLed root head g
@@ -214,7 +214,7 @@ module _ (root : Names) (name id : List ℕ) (g : Ground) (outside : IsRoot root
   was_there : (s : Names) → IsDataset s put → IsDataset s g
   was_there s is = elim (cases_place (head_place s) branch) [
     | inl e ↦ absurd (no_head_at s root branch_names outside (record { inner = branch_plain name named; other = refl }) e)
-    | inr other ↦ record { head = ap is_some (sym (file_at-insert_other g branch (id_text id) (head_place s) other)) ∙ is.head; outside = is.outside }
+    | inr other ↦ ap is_some (sym (file_at-insert_other g branch (id_text id) (head_place s) other)) ∙ is
   ]
 
   pub branch_keeps : KeepsSound (branch_round root name id) g

@@ -81,8 +81,8 @@ module _ (root : Names) (objects : List NewObject) (g x : Ground) (outside : IsR
   put_heads s apart = head_as s g x (put_rest s apart)
 
   no_new_dataset : (s : Names) → IsDataset s x → IsDataset s g
-  no_new_dataset s is = elim (seen (head_place s) (head_is_watched s is.outside)) [
-    | inl same ↦ record { head = ap is_some (sym same) ∙ is.head; outside = is.outside }
+  no_new_dataset s is = elim (seen (head_place s) (head_is_watched s)) [
+    | inl same ↦ ap is_some (sym same) ∙ is
     | inr put ↦ absurd (no_head s root (hex_of (oid put.object.kind put.object.body)) put.place)
   ]
 

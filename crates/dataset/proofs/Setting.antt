@@ -10,7 +10,6 @@ use Rattle.repository.proofs.HeadTexts.{branch_in-only}
 use Rattle.dataset.specs.Watched.{IsRoot}
 use Rattle.dataset.specs.Rounds.{KeepsSound, tip_round, CanSet}
 use Rattle.dataset.specs.Leads.{IsLed}
-use Rattle.dataset.proofs.Splits.{head_no_tmp}
 use Rattle.dataset.proofs.Leading.{is_led, branch_keeps, branch_leads}
 
 module _ (root : Names) (id : List ℕ) (g : Ground) (outside : IsRoot root) where
@@ -27,7 +26,7 @@ module _ (root : Names) (id : List ℕ) (g : Ground) (outside : IsRoot root) whe
   detached : CanSet (repo_of root) None id g → IsLed root (record { branch = None; id = id }) g
   detached can =
       is_led root (record { branch = None; id = id }) g outside
-      (record { dataset = record { head = head_there None can; outside = head_no_tmp root outside }; whole = can.whole; there = tt })
+      (record { dataset = head_there None can; whole = can.whole; there = tt })
 
   -- the branch has a branch's name
   named : (name : List ℕ) → CanSet (repo_of root) (Some name) id g → is_branch name ≡ true

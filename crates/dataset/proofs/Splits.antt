@@ -2,17 +2,17 @@
 use Rattle.std.proofs.Common.{◌≡◌, inl, inr, ℕ, Bool, true, false, not, cond, ◌&&◌, ◌||◌, ◌==◌, List, [], ◌∷◌, ◌++◌, take, drop, length, refl, sym, ap, ◌∙◌, append_assoc}
 use Rattle.std.specs.Prelude.{codes, bytes_eq, nat_lt, nat_eq}
 use Rattle.std.specs.List.{list_all, starts_with, ends_with}
-use Rattle.std.proofs.lemmas.Bool.{cases_Bool, eqb-true, false≢true, false_from_ne_true}
+use Rattle.std.proofs.lemmas.Bool.{cases_Bool, eqb-true, false≢true}
 use Rattle.std.proofs.lemmas.List.{take-append-drop}
-use Rattle.std.proofs.lemmas.Slice.Eq.{bytes_eq-Decides}
 use Rattle.places.specs.All.{Names, has_name, pieces}
 use Rattle.places.proofs.Texts.{and_both, or_neither}
 use Rattle.places.proofs.Grammar.{or_right}
 use Rattle.places.proofs.Above.{first_split, first_found}
 use Rattle.places.proofs.Named.{has_name-more}
 use Rattle.repository.specs.All.{is_branch_byte, is_component, is_branch, dlrepo, repo_of}
-use Rattle.repository.specs.All.{head_place, object_names, is_tmp, is_below_tmp}
+use Rattle.repository.specs.All.{head_place, object_names, is_tmp}
 use Rattle.repository.proofs.BranchNames.{branch_facts, branch_firm}
+use Rattle.repository.proofs.Unfinished.{tmp_below_root, object_names_firm, head_firm}
 use Rattle.dataset.specs.Watched.{IsRoot, is_own, is_looked_at, is_seen, is_watched, IsWatched}
 
 -- `HEAD`
@@ -85,20 +85,6 @@ digits_once a b e =
     let backs : drop 2 a ≡ drop 2 b = cc e in
     sym (take-append-drop 2 a) ∙ (λ i. fronts i ++ backs i) ∙ take-append-drop 2 b
 
--- ---- unfinished writes
-
-swapped : (n : List ℕ) → bytes_eq dlrepo n ≡ false → bytes_eq n dlrepo ≡ false
-swapped n h = false_from_ne_true (bytes_eq n dlrepo) (λ is. false≢true (sym h ∙ (bytes_eq-Decides dlrepo n).1 (sym ((bytes_eq-Decides n dlrepo).0 is))))
-
--- below a root they are those of its repository
-tmp_below_root : (root names : Names) → IsRoot root → is_tmp (root ++ dlrepo ∷ names) ≡ is_tmp (dlrepo ∷ names)
-unfolding is_tmp
-tmp_below_root [] names h = refl
-tmp_below_root (n ∷ root) names h =
-    let parts = or_neither (bytes_eq dlrepo n) (has_name dlrepo root) h in
-    let other = swapped n parts.0 in
-    λ i. (other i && is_below_tmp (root ++ dlrepo ∷ names)) || tmp_below_root root names parts.1 i
-
 -- ---- watched places
 
 both : (a b : Bool) → (not a && b) ≡ true → a ≡ false
@@ -119,7 +105,7 @@ seen_names (n ∷ root) names h =
     ap (λ b. cond b (is_looked_at (root ++ dlrepo ∷ names)) (is_seen (root ++ dlrepo ∷ names))) parts.0 ∙ seen_names root names parts.1
 
 pub watched_at : (root names : Names) → IsRoot root → is_watched_name names ≡ true → IsWatched (repo_of root ++ names)
-watched_at root names h is = ap is_watched (in_repo root names) ∙ (λ i. not (tmp_below_root root names h i) && seen_names root names h i) ∙ is
+watched_at root names h is = ap is_watched (in_repo root names) ∙ (λ i. not (tmp_below_root root (dlrepo ∷ names) h i) && seen_names root names h i) ∙ is
 
 inner_looked_at : (ns : Names) → is_looked_at (ns ++ dlrepo ∷ head_names) ≡ true
 inner_looked_at [] = refl
@@ -133,16 +119,11 @@ head_seen (n ∷ root) = elim (cases_Bool (bytes_eq dlrepo n)) [
   | inr other ↦ ap (λ b. cond b (is_looked_at (root ++ dlrepo ∷ head_names)) (is_seen (root ++ dlrepo ∷ head_names))) other ∙ head_seen root
 ]
 
-pub head_is_watched : (root : Names) → is_tmp (head_place root) ≡ false → IsWatched (head_place root)
-head_is_watched root outside = λ i. not (outside i) && (ap is_seen (in_repo root head_names) ∙ head_seen root) i
-
-and_false : (b : Bool) → (b && false) ≡ false
-and_false true = refl
-and_false false = refl
+pub head_is_watched : (root : Names) → IsWatched (head_place root)
+head_is_watched root = λ i. not (head_firm root i) && (ap is_seen (in_repo root head_names) ∙ head_seen root) i
 
 pub object_watched : (digits : List ℕ) → is_watched_name (object_names digits) ≡ true
-unfolding is_tmp
-object_watched digits = λ i. not (and_false (bytes_eq (take 2 digits) dlrepo) i || (and_false (bytes_eq (drop 2 digits) dlrepo) i || false)) && true
+object_watched digits = λ i. not (object_names_firm digits i) && true
 
 pub head_watched : is_watched_name head_names ≡ true
 unfolding is_tmp
@@ -152,13 +133,10 @@ pub settings_watched : is_watched_name (codes "config" ∷ []) ≡ true
 unfolding is_tmp
 settings_watched = refl
 
-pub tmp_watched : is_watched_name (codes "tmp" ∷ []) ≡ true
-unfolding is_tmp
-tmp_watched = refl
-
--- a dataset's HEAD is no unfinished write
-pub head_no_tmp : (root : Names) → IsRoot root → is_tmp (head_place root) ≡ false
-head_no_tmp root outside = watched_no_tmp (head_place root) (watched_at root head_names outside head_watched)
+-- `tmp`, and what lies below it and is no unfinished write
+pub tmp_watched : (root names : Names) → IsRoot root → is_tmp (repo_of root ++ codes "tmp" ∷ names) ≡ false → is_watched_name (codes "tmp" ∷ names) ≡ true
+tmp_watched root names outside firm =
+    λ i. not ((sym (ap is_tmp (in_repo root (codes "tmp" ∷ names)) ∙ tmp_below_root root (dlrepo ∷ codes "tmp" ∷ names) outside) ∙ firm) i) && true
 
 -- ---- branches' places
 

@@ -5,7 +5,7 @@ use Rattle.std.proofs.lemmas.Bool.{false≢true}
 use Rattle.places.specs.All.{Names, pieces, Ground, file_at}
 use Rattle.git_objects.specs.All.{hex_of, Object}
 use Rattle.repository.specs.All.{head_in, head_of, is_branch, object_of, held_at, repo_of}
-use Rattle.repository.specs.All.{head_place, branch_place, object_names, object_place, tmp_names}
+use Rattle.repository.specs.All.{head_place, branch_place, object_names, object_place}
 use Rattle.repository.specs.All.{LessTmp}
 use Rattle.repository.proofs.Unfinished.{tmp_firm}
 use Rattle.dataset.specs.Watched.{IsRoot, SameWatched}
@@ -50,7 +50,7 @@ module _ (root : Names) (a b : Ground) (rest : SameRest root b a) where
       stands = rest (codes "config" ∷ []) settings_watched refl ∙ at.settings.stands;
       valid = at.settings.valid;
     };
-    tmp = rest tmp_names tmp_watched refl ∙ at.tmp;
+    tmp = λ names firm. rest (codes "tmp" ∷ names) (tmp_watched root names at.outside firm) refl ∙ at.tmp names firm;
     outside = at.outside;
   }
 
@@ -84,7 +84,7 @@ module _ (a b : Ground) (same : SameWatched b a) where
 
   pub as_sound : Sound a → Sound b
   as_sound sound root is =
-      let at = sound root (record { head = ap is_some (sym (same (head_place root) (head_is_watched root is.outside))) ∙ is.head; outside = is.outside }) in
+      let at = sound root (ap is_some (sym (same (head_place root) (head_is_watched root))) ∙ is) in
       grown root a b (λ names watched other. same_in root at.outside names watched) (same_held root at.outside) (objects_as (repo_of root) a b (same_objects root at.outside) at.objects) at
 
 -- ---- unfinished writes may go
@@ -96,4 +96,4 @@ less_same root a b less q watched = elim (less q) [
 ]
 
 pub empty_sound : (g : Ground) → ((q : Names) → file_at g q ≡ None) → Sound g
-empty_sound g none root is = absurd (false≢true (sym (ap is_some (none (head_place root))) ∙ is.head))
+empty_sound g none root is = absurd (false≢true (sym (ap is_some (none (head_place root))) ∙ is))

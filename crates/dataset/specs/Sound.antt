@@ -1,18 +1,17 @@
 -- Which grounds are sound.
-use Rattle.std.specs.Prelude.{◌≡◌, ℕ, true, false, List, ◌++◌, Some, None, IsSome, Ok}
+use Rattle.std.specs.Prelude.{◌≡◌, ℕ, true, false, List, ◌∷◌, ◌++◌, codes, Some, None, IsSome, Ok}
 use Rattle.places.specs.All.{Names, Ground, file_at, stands}
 use Rattle.git_objects.specs.All.{Fields, IsId, Object}
 use Rattle.config_text.specs.All.{PlainConfig, config_in}
 use Rattle.repository.specs.All.{Head, head_of, id_in, is_branch, held_at, repo_of, head_place}
-use Rattle.repository.specs.All.{settings_place, object_place, branch_place, tmp_names, is_tmp}
+use Rattle.repository.specs.All.{settings_place, object_place, branch_place, is_tmp}
 use Rattle.object_store.specs.All.{IsCommitAt}
 use Rattle.dataset.specs.Watched.{IsRoot}
 use Rattle.dataset.specs.Whole.{IsWhole, AreWhole}
 
--- A dataset's HEAD stands, and is no unfinished write.
-pub record IsDataset (root : Names) (g : Ground) : Type 0 where
-  pub head : stands g (head_place root) ≡ true
-  pub outside : is_tmp (head_place root) ≡ false
+-- A dataset's HEAD stands.
+abbrev pub IsDataset : Names → Ground → Type 0
+IsDataset root g = stands g (head_place root) ≡ true
 
 -- A file at the place of an id is an object of that id, and the parents of each commit are whole.
 pub record HasSoundObjects (repo : Names) (g : Ground) : Type 0 where
@@ -40,9 +39,12 @@ pub record HasSoundSettings (root : Names) (g : Ground) : Type 0 where
   pub stands : file_at g (settings_place root) ≡ Some text
   pub valid : IsConfiguration text
 
--- No file stands at `tmp`, the directory of unfinished writes.
+-- At `tmp` and below it stand unfinished writes alone, each directly in it: no file stands at `tmp`
+-- itself, and none deeper below it, but for unfinished writes of a repository that lies there.
 abbrev pub HasSoundTmp : Names → Ground → Type 0
-HasSoundTmp repo g = file_at g (repo ++ tmp_names) ≡ None
+HasSoundTmp repo g =
+    (names : Names) → is_tmp (repo ++ codes "tmp" ∷ names) ≡ false
+    → file_at g (repo ++ codes "tmp" ∷ names) ≡ None
 
 -- What a sound ground has of a dataset whose files are all kept in git: its objects, its heads, its
 -- configuration, room for unfinished writes; and it isn't in a repository.

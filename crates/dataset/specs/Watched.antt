@@ -24,8 +24,9 @@ abbrev pub is_seen : Names → Bool
 is_seen [] = false
 is_seen (n ∷ ns) = if bytes_eq dlrepo n then is_looked_at ns else is_seen ns
 
--- A place at which soundness, heads and held objects look: in a repository its objects, HEAD, refs,
--- configuration and `tmp` itself, and all of a repository that lies in it; no unfinished write.
+-- A place at which soundness, heads and held objects look: in a repository its objects, HEAD, refs
+-- and configuration, `tmp` itself and what lies deeper below it than an unfinished write, and all
+-- of a repository that lies in it; no unfinished write.
 abbrev pub is_watched : Names → Bool
 is_watched q = not (is_tmp q) && is_seen q
 

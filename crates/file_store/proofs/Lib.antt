@@ -7,6 +7,7 @@ pub mod ManyFiles
 pub mod Rounds
 mod Effects
 mod Chosen
+pub mod Counted
 mod Gathered
 mod Kept
 mod Laid

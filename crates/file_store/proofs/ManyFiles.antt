@@ -98,7 +98,7 @@ all_goes list {d0} {d2} {d3} d1 wrote free kept first second =
 
 -- ---- how it ends
 
-module _ (tells : Bool) (list : List Replacement) (d0 d1 d2 : Drive) (wrote : StageEnds tells list d0 d1 (Ok tt)) (kept : BarrierEnds tells d1 d2 (Ok tt)) (fewer : d0.faults ≤ d2.faults) where
+module _ (tells : Bool) (list : List Replacement) (d0 d1 d2 : Drive) (wrote : StageEnds tells list d0 d1 (Ok tt)) (kept : BarrierEnds tells d1 d2 (Ok tt)) where
   -- the block, once the writes weren't refused
   late_block : IsTrue tells → block_of list (present d0) ≡ move_block list (present d2)
   late_block told =
@@ -106,16 +106,16 @@ module _ (tells : Bool) (list : List Replacement) (d0 d1 d2 : Drive) (wrote : St
       ∙ ap (λ (g : Ground). move_block list g) (sym (present_staged list d0 d1 d2 (wrote told).0 (kept told)))
 
   pub move_fails : (d3 : Drive) (e : FileErr) → MoveEnds tells list d2 d3 (Err e) → ReplaceEnds tells list d0 d3 (Err e)
-  move_fails d3 Failed ends = omega (arith, ends, fewer)
+  move_fails d3 Failed ends = tt
   move_fails d3 (Blocked at) ends = (ends.0, late_block ends.0 ∙ ends.1, λ shut. absurd (not_first list (present d0) (wrote ends.0).1 shut))
   move_fails d3 NoMemory ends = tt
 
-  pub all_ends : (d3 d4 : Drive) (r : Result (Unit {0}) FileErr) → MoveEnds tells list d2 d3 (Ok tt) → d2.faults ≤ d3.faults → BarrierEnds tells d3 d4 r → ReplaceEnds tells list d0 d4 r
-  all_ends d3 d4 (Ok _) moves more ends = λ told. (
+  pub all_ends : (d3 d4 : Drive) (r : Result (Unit {0}) FileErr) → MoveEnds tells list d2 d3 (Ok tt) → BarrierEnds tells d3 d4 r → ReplaceEnds tells list d0 d4 r
+  all_ends d3 d4 (Ok _) moves ends = λ told. (
     ap (λ (h : History). h.latest) (ends told)
         ∙ ap at_rest ((moves told).0 ∙ ap (λ (g : Ground). installed list g) (present_staged list d0 d1 d2 (wrote told).0 (kept told))),
     late_block told ∙ (moves told).1,
   )
-  all_ends d3 d4 (Err Failed) moves more ends = omega (arith, ends, fewer, more)
-  all_ends d3 d4 (Err (Blocked at)) moves more ends = absurd ends
-  all_ends d3 d4 (Err NoMemory) moves more ends = tt
+  all_ends d3 d4 (Err Failed) moves ends = tt
+  all_ends d3 d4 (Err (Blocked at)) moves ends = absurd ends
+  all_ends d3 d4 (Err NoMemory) moves ends = tt

@@ -76,9 +76,9 @@ found_it tells from to bytes old new stands true ends = ends
 found_it tells from to bytes old new stands false ends = absurd (false≢true (sym ends.2 ∙ ap is_some (stands ends.0)))
 
 module _ (tells : Bool) (tmp p : Names) (bytes : List ℕ) (d0 d1 d2 d3 : Drive) where
-  pub replace_ends : WriteEnds tells tmp bytes d0 d1 (Ok tt) → BarrierEnds tells d1 d2 (Ok tt) → RenameEnds tells tmp p d2 d3 (Ok true) → d0.faults ≤ d3.faults
+  pub replace_ends : WriteEnds tells tmp bytes d0 d1 (Ok tt) → BarrierEnds tells d1 d2 (Ok tt) → RenameEnds tells tmp p d2 d3 (Ok true)
       → (d4 : Drive) (r : Result (Unit {0}) FileErr) → BarrierEnds tells d3 d4 r → ReplaceEnds tells (only tmp p bytes) d0 d4 r
-  replace_ends written kept moves fewer d4 (Ok _) ends = λ told.
+  replace_ends written kept moves d4 (Ok _) ends = λ told.
       let w = written told in
       let m = moves told in
       let g = insert d0.history.latest.now tmp bytes in
@@ -90,6 +90,6 @@ module _ (tells : Bool) (tmp p : Names) (bytes : List ℕ) (d0 d1 d2 d3 : Drive)
     where
       not_blocked : is_shut d0.history.latest.now tmp ≡ false → is_shut (insert d0.history.latest.now tmp bytes) p ≡ false → block_of (only tmp p bytes) d0.history.latest.now ≡ None
       not_blocked at_tmp at_p = simp (at_tmp, at_p) refl
-  replace_ends written kept moves fewer d4 (Err Failed) ends = omega (arith, ends, fewer)
-  replace_ends written kept moves fewer d4 (Err (Blocked at)) ends = absurd ends
-  replace_ends written kept moves fewer d4 (Err NoMemory) ends = tt
+  replace_ends written kept moves d4 (Err Failed) ends = tt
+  replace_ends written kept moves d4 (Err (Blocked at)) ends = absurd ends
+  replace_ends written kept moves d4 (Err NoMemory) ends = tt

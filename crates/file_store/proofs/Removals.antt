@@ -1,5 +1,5 @@
 -- The files at a list of places removed, one by one.
-use Rattle.std.proofs.Common.{◌≡◌, ◌+◌, ◌≤◌, inl, inr, ℕ, zero, suc, Bool, true, false, IsTrue, List, [], ◌∷◌, drop, Some, None, Ok, Err, Result, refl, sym, ◌∙◌, ap, subst, arith}
+use Rattle.std.proofs.Common.{◌≡◌, ◌+◌, inl, inr, ℕ, zero, suc, Bool, true, false, IsTrue, List, [], ◌∷◌, drop, Some, None, Ok, Err, Result, refl, sym, ◌∙◌, ap, subst}
 use Rattle.std.specs.Prelude.{slice_get}
 use Rattle.std.specs.FinMap.{remove}
 use Rattle.places.specs.All.{Names, Ground, file_at, stands}
@@ -81,16 +81,16 @@ pub removed_now : (tells : Bool) (p : Names) (old new : Drive) (found : Bool) �
 removed_now tells p old new true ends told = ap (λ (h : History). h.latest.now) (ends told).0
 removed_now tells p old new false ends told = ap (λ (h : History). h.latest.now) (ends told).0 ∙ sym (none_removed (present old) p (ends told).1)
 
-pub remove_fails : (tells : Bool) (list : List Names) (p : Names) (old mid new : Drive) (e : FileErr) → old.faults ≤ mid.faults → RemoveEnds tells p mid new (Err e) → RemoveAllEnds tells list old new (Err e)
-remove_fails tells list p old mid new Failed more ends = omega (arith, ends, more)
-remove_fails tells list p old mid new (Blocked at) more ends = ends
-remove_fails tells list p old mid new NoMemory more ends = tt
+pub remove_fails : (tells : Bool) (list : List Names) (p : Names) (old mid new : Drive) (e : FileErr) → RemoveEnds tells p mid new (Err e) → RemoveAllEnds tells list old new (Err e)
+remove_fails tells list p old mid new Failed ends = tt
+remove_fails tells list p old mid new (Blocked at) ends = ends
+remove_fails tells list p old mid new NoMemory ends = tt
 
-pub remove_ends : (tells : Bool) (list : List Names) (old mid new : Drive) (r : Result (Unit {0}) FileErr) → old.faults ≤ mid.faults → (IsTrue tells → present mid ≡ changed (removal_of list) (present old)) → BarrierEnds tells mid new r → RemoveAllEnds tells list old new r
-remove_ends tells list old mid new (Ok _) more made ends = λ told. ap (λ (h : History). h.latest) (ends told) ∙ ap at_rest (made told)
-remove_ends tells list old mid new (Err Failed) more made ends = omega (arith, ends, more)
-remove_ends tells list old mid new (Err (Blocked at)) more made ends = ends
-remove_ends tells list old mid new (Err NoMemory) more made ends = tt
+pub remove_ends : (tells : Bool) (list : List Names) (old mid new : Drive) (r : Result (Unit {0}) FileErr) → (IsTrue tells → present mid ≡ changed (removal_of list) (present old)) → BarrierEnds tells mid new r → RemoveAllEnds tells list old new r
+remove_ends tells list old mid new (Ok _) made ends = λ told. ap (λ (h : History). h.latest) (ends told) ∙ ap at_rest (made told)
+remove_ends tells list old mid new (Err Failed) made ends = tt
+remove_ends tells list old mid new (Err (Blocked at)) made ends = ends
+remove_ends tells list old mid new (Err NoMemory) made ends = tt
 
 -- in the midst of a command
 pub removing_goes : (list : List Names) {IsFirm : Names → Type 0} {old new : Drive} → GoesAlong Everywhere (λ g. removal_of list ∷ []) old new → GoesAlong IsFirm (λ g. removal_of list ∷ []) old new

@@ -1,5 +1,5 @@
 -- The words of this crate, for those above.
-pub use Rattle.file_store.specs.Causes.{Rose, one_more}
+pub use Rattle.file_store.specs.Causes.{Counts, Rose, has_failed, one_more}
 pub use Rattle.file_store.specs.Course.{Along, Arrives, GoesAlong, IsAlong, IsBetween, LiesAlong}
 pub use Rattle.file_store.specs.Course.{LiesBetween, Round, WasOpen, changed, finally, here, still}
 pub use Rattle.file_store.specs.Course.{there, with_file}
@@ -22,8 +22,8 @@ pub use Rattle.file_store.specs.Memory.Images.{AreOpen, IsChosen, IsLeft, left_b
 pub use Rattle.file_store.specs.Memory.Lists.{AddEnds, GatherEnds, IsListOf, clash_after, clash_of}
 pub use Rattle.file_store.specs.Memory.Lists.{clashes, ground_of, places_in, plain}
 pub use Rattle.file_store.specs.Memory.Moment.{disk_of, tears}
-pub use Rattle.file_store.specs.Memory.Plan.{NoneFails, counted, faults_after, is_stopped, turn_at}
-pub use Rattle.file_store.specs.Memory.Plan.{turn_of}
+pub use Rattle.file_store.specs.Memory.Plan.{NoneFails, counted, is_stopped, turn_at, turn_of}
+pub use Rattle.file_store.specs.Memory.Plan.{with_call, with_fault}
 pub use Rattle.file_store.specs.Memory.Sink.{tape_of}
 pub use Rattle.file_store.specs.Memory.Turns.{ChangesByTurn, ReadsByTurn}
 pub use Rattle.file_store.specs.Named.{as_items, kind_of_path, seen, seen_among}
@@ -32,5 +32,6 @@ pub use Rattle.file_store.specs.Replaced.{AreApart, IsNoTmp, ReplaceEnds, all_re
 pub use Rattle.file_store.specs.Replaced.{first_shut, installed, move_block, only, or_next}
 pub use Rattle.file_store.specs.Replaced.{replaced, replacing, round_of, stage_block, staged}
 pub use Rattle.file_store.specs.Rounds.{AreReady, MoveEnds, StageEnds}
-pub use Rattle.file_store.specs.Tape.{Grew, GrewBy, IsLater, PieceEnds, Tape, WholeEnds}
+pub use Rattle.file_store.specs.Tape.{CountsBoth, Grew, GrewBy, IsLater, PieceEnds, Tape, WholeEnds}
+pub use Rattle.file_store.specs.Tape.{sink_failed, sink_starved}
 pub use Rattle.file_store.specs.Troubles.{trouble_of}

@@ -3,7 +3,6 @@ use Rattle.std.specs.Prelude.{◌≡◌, ℕ, ◌≤◌, Bool, true, false, IsTr
 use Rattle.std.specs.Prelude.{drop, Option, option_map, unwrap_or, Vec, Result, Ok, Err}
 use Rattle.std.specs.declared.alloc.Global.{Global}
 use Rattle.places.specs.All.{Names, Ground, file_at, stands, is_shut}
-use Rattle.file_store.specs.Causes.{Rose}
 use Rattle.file_store.specs.Disk.{Drive, next, wrote, appended, renamed, removed, synced}
 use Rattle.file_store.specs.Kinds.{kind_at, AreListed, IsListing}
 use Rattle.file_store.specs.declared.kinds.Kind.{Kind}
@@ -19,22 +18,22 @@ present drive = drive.history.latest.now
 abbrev pub Keeps : Bool → Drive → Drive → Type 0
 Keeps tells old new = IsTrue tells → new.history ≡ old.history
 
--- A call that only reads: its fault rose, or memory was wanting, and nothing changed.
+-- A call that only reads: the device failed, or memory was wanting, and nothing changed.
 abbrev pub ReadFails : Bool → Drive → Drive → FileErr → Type 0
-ReadFails tells old new Failed = Rose old.faults new.faults × Keeps tells old new
+ReadFails tells old new Failed = Keeps tells old new
 ReadFails tells old new (Blocked at) = ⊥
 ReadFails tells old new NoMemory = Keeps tells old new
 
--- A call that removes a file or passes a barrier: its fault rose, or memory was wanting, and then
--- nothing changed.
+-- A call that removes a file or passes a barrier: the device failed, or memory was wanting, and
+-- then nothing changed.
 abbrev pub ChangeFails : Bool → Drive → Drive → FileErr → Type 0
-ChangeFails tells old new Failed = Rose old.faults new.faults
+ChangeFails tells old new Failed = Unit {0}
 ChangeFails tells old new (Blocked at) = ⊥
 ChangeFails tells old new NoMemory = Keeps tells old new
 
 -- A call that puts a file at the place: the same, and it may be refused for a file above or below.
 abbrev pub PutFails : Bool → Names → Drive → Drive → FileErr → Type 0
-PutFails tells place old new Failed = Rose old.faults new.faults
+PutFails tells place old new Failed = Unit {0}
 PutFails tells place old new (Blocked at) =
     IsTrue tells × (at ≡ place)
     × (is_shut (present old) place ≡ true)
@@ -123,7 +122,7 @@ RenameEnds tells from to old new (Ok true) =
     × (is_shut (present old) to ≡ false)
 RenameEnds tells from to old new (Ok false) =
     IsTrue tells × (new.history ≡ old.history) × (stands (present old) from ≡ false)
-RenameEnds tells from to old new (Err Failed) = Rose old.faults new.faults
+RenameEnds tells from to old new (Err Failed) = Unit {0}
 RenameEnds tells from to old new (Err (Blocked at)) =
     IsTrue tells × (at ≡ to)
     × (stands (present old) from ≡ true)

@@ -1,7 +1,6 @@
 -- Files that are removed in one round.
 use Rattle.std.specs.Prelude.{◌≡◌, Bool, IsTrue, List, map, None, Result, Ok, Err}
 use Rattle.places.specs.All.{Names}
-use Rattle.file_store.specs.Causes.{Rose}
 use Rattle.file_store.specs.Disk.{Drive, at_rest}
 use Rattle.file_store.specs.Course.{Round, changed}
 use Rattle.file_store.specs.Ends.{present}
@@ -16,10 +15,10 @@ Everywhere q = Unit {0}
 abbrev pub removal_of : List Names → Round
 removal_of list = map (λ p. (p, None)) list
 
--- All of them are gone, safe from a crash; or a fault rose; or memory was wanting.
+-- All of them are gone, safe from a crash; or the device failed; or memory was wanting.
 abbrev pub RemoveAllEnds : Bool → List Names → Drive → Drive → Result (Unit {0}) FileErr → Type 0
 RemoveAllEnds tells list old new (Ok _) =
     IsTrue tells → new.history.latest ≡ at_rest (changed (removal_of list) (present old))
-RemoveAllEnds tells list old new (Err Failed) = Rose old.faults new.faults
+RemoveAllEnds tells list old new (Err Failed) = Unit {0}
 RemoveAllEnds tells list old new (Err (Blocked at)) = ⊥
 RemoveAllEnds tells list old new (Err NoMemory) = Unit {0}

@@ -3,7 +3,6 @@ use Rattle.std.specs.Prelude.{◌≡◌, ◌≢◌, ℕ, Bool, true, false, IsTr
 use Rattle.std.specs.Prelude.{map, slice_get, Option, Some, None, Result, Ok, Err}
 use Rattle.std.specs.FinMap.{insert, remove}
 use Rattle.places.specs.All.{Names, Ground, is_shut}
-use Rattle.file_store.specs.Causes.{Rose}
 use Rattle.file_store.specs.Disk.{Drive, at_rest}
 use Rattle.file_store.specs.Course.{Round}
 use Rattle.file_store.specs.Ends.{present}
@@ -81,13 +80,13 @@ abbrev pub only : Names → Names → List ℕ → List Replacement
 only tmp place bytes = record { tmp = tmp; place = place; bytes = bytes } ∷ []
 
 -- All of them are replaced and safe; or the first place that is shut is named, and where that is
--- the first temporary place nothing has changed; or a fault rose; or memory was wanting.
+-- the first temporary place nothing has changed; or the device failed; or memory was wanting.
 abbrev pub ReplaceEnds : Bool → List Replacement → Drive → Drive → Result (Unit {0}) FileErr
     → Type 0
 ReplaceEnds tells list old new (Ok _) =
     IsTrue tells → (new.history.latest ≡ at_rest (all_replaced list (present old)))
     × (block_of list (present old) ≡ None)
-ReplaceEnds tells list old new (Err Failed) = Rose old.faults new.faults
+ReplaceEnds tells list old new (Err Failed) = Unit {0}
 ReplaceEnds tells list old new (Err (Blocked at)) =
     IsTrue tells × (block_of list (present old) ≡ Some at)
     × (first_shut list (present old) ≡ true → new.history ≡ old.history)

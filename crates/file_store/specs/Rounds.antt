@@ -3,7 +3,6 @@
 use Rattle.std.specs.Prelude.{◌≡◌, ℕ, Bool, true, IsTrue, List, slice_get, Some, None, Result, Ok}
 use Rattle.std.specs.Prelude.{Err}
 use Rattle.places.specs.All.{file_at}
-use Rattle.file_store.specs.Causes.{Rose}
 use Rattle.file_store.specs.Disk.{Drive, at_rest}
 use Rattle.file_store.specs.Ends.{present}
 use Rattle.file_store.specs.Replaced.{staged, installed, stage_block, move_block, first_shut}
@@ -12,12 +11,12 @@ use Rattle.file_store.specs.declared.errors.FileErr.TheVariants.{Failed, Blocked
 use Rattle.file_store.specs.declared.replacing.Replacement.{Replacement}
 
 -- All of them are written; or the first temporary place that is shut is named, and where that is
--- the first of all nothing has changed; or a fault rose; or memory was wanting.
+-- the first of all nothing has changed; or the device failed; or memory was wanting.
 abbrev pub StageEnds : Bool → List Replacement → Drive → Drive → Result (Unit {0}) FileErr → Type 0
 StageEnds tells list old new (Ok _) =
     IsTrue tells → (present new ≡ staged list (present old))
     × (stage_block list (present old) ≡ None)
-StageEnds tells list old new (Err Failed) = Rose old.faults new.faults
+StageEnds tells list old new (Err Failed) = Unit {0}
 StageEnds tells list old new (Err (Blocked at)) =
     IsTrue tells × (stage_block list (present old) ≡ Some at)
     × (first_shut list (present old) ≡ true → new.history ≡ old.history)
@@ -29,13 +28,13 @@ pub record AreReady (list : List Replacement) (drive : Drive) : Type 0 where
   pub files : (i : ℕ) (r : Replacement) → slice_get list i ≡ Some r
       → file_at (present drive) r.tmp ≡ Some r.bytes
 
--- All of them are moved; or the first place that is shut is named; or a fault rose; or memory was
--- wanting.
+-- All of them are moved; or the first place that is shut is named; or the device failed; or memory
+-- was wanting.
 abbrev pub MoveEnds : Bool → List Replacement → Drive → Drive → Result (Unit {0}) FileErr → Type 0
 MoveEnds tells list old new (Ok _) =
     IsTrue tells → (present new ≡ installed list (present old))
     × (move_block list (present old) ≡ None)
-MoveEnds tells list old new (Err Failed) = Rose old.faults new.faults
+MoveEnds tells list old new (Err Failed) = Unit {0}
 MoveEnds tells list old new (Err (Blocked at)) =
     IsTrue tells × (move_block list (present old) ≡ Some at)
 MoveEnds tells list old new (Err NoMemory) = Unit {0}

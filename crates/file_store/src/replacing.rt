@@ -3,7 +3,8 @@
 // The order is what keeps the promise: all bytes are written to temporary places, a barrier makes them safe, each is
 // renamed onto its place, and a second barrier makes the names safe. A reader never sees a part of a file. After a
 // failure each place has the old bytes or the new ones, and a temporary file may be left.
-ghost use Rattle.std.specs.Prelude.{◌≢◌, ◌≤◌, IsTrue, [], ◌∷◌};
+ghost use Rattle.std.specs.Prelude.{◌≢◌, IsTrue, [], ◌∷◌};
+ghost use Rattle.file_store.specs.Causes.{Counts, has_failed};
 ghost use Rattle.file_store.specs.Course.{GoesAlong};
 ghost use Rattle.file_store.specs.Replaced.{only, ReplaceEnds, AreApart, IsNoTmp, round_of, replacing};
 ghost use Rattle.file_store.specs.Rounds.{StageEnds, AreReady, MoveEnds};
@@ -31,7 +32,7 @@ pub fn replace<F: Files>(
     bytes: &[u8],
 ) -> Result<(), FileErr>
     requires { tmp.now ≢ place.now }
-    ensures later { (F.drive files.old).faults ≤ (F.drive files.new).faults }
+    ensures later { Counts (has_failed result) (F.drive files.old).faults (F.drive files.new).faults }
     ensures ends { ReplaceEnds F.tells (only tmp.now place.now bytes.now) (F.drive files.old)
         (F.drive files.new) result }
 
@@ -52,7 +53,7 @@ pub fn replace_all<F: Files>(
     list: &[Replacement],
 ) -> Result<(), FileErr>
     requires { AreApart list.now }
-    ensures later { (F.drive files.old).faults ≤ (F.drive files.new).faults }
+    ensures later { Counts (has_failed result) (F.drive files.old).faults (F.drive files.new).faults }
     ensures ends { ReplaceEnds F.tells list.now (F.drive files.old) (F.drive files.new) result }
     ensures crash { IsTrue F.tells → GoesAlong (IsNoTmp list.now) (replacing list.now) (F.drive files.old)
         (F.drive files.new) }
@@ -65,7 +66,7 @@ pub fn replace_all<F: Files>(
 
 // Writes each file to its temporary place.
 fn stage_all<F: Files>(alloc: Global, files: &mut F, list: &[Replacement]) -> Result<(), FileErr>
-    ensures later { (F.drive files.old).faults ≤ (F.drive files.new).faults }
+    ensures later { Counts (has_failed result) (F.drive files.old).faults (F.drive files.new).faults }
     ensures ends { StageEnds F.tells list.now (F.drive files.old) (F.drive files.new) result }
     ensures crash { IsTrue F.tells → GoesAlong (IsNoTmp list.now) (λ g. []) (F.drive files.old) (F.drive files.new) }
 {
@@ -79,7 +80,7 @@ fn stage_all<F: Files>(alloc: Global, files: &mut F, list: &[Replacement]) -> Re
 fn move_all<F: Files>(alloc: Global, files: &mut F, list: &[Replacement]) -> Result<(), FileErr>
     requires apart { AreApart list.now }
     requires staged { IsTrue F.tells → AreReady list.now (F.drive files.old) }
-    ensures later { (F.drive files.old).faults ≤ (F.drive files.new).faults }
+    ensures later { Counts (has_failed result) (F.drive files.old).faults (F.drive files.new).faults }
     ensures ends { MoveEnds F.tells list.now (F.drive files.old) (F.drive files.new) result }
     ensures crash { IsTrue F.tells → GoesAlong (IsNoTmp list.now) (λ g. round_of list.now ∷ []) (F.drive files.old)
         (F.drive files.new) }
@@ -92,7 +93,7 @@ fn move_all<F: Files>(alloc: Global, files: &mut F, list: &[Replacement]) -> Res
 
 /// Removes the files at the places, at the price of one barrier.
 pub fn remove_all<F: Files>(alloc: Global, files: &mut F, list: &[Place]) -> Result<(), FileErr>
-    ensures later { (F.drive files.old).faults ≤ (F.drive files.new).faults }
+    ensures later { Counts (has_failed result) (F.drive files.old).faults (F.drive files.new).faults }
     ensures ends { RemoveAllEnds F.tells list.now (F.drive files.old) (F.drive files.new) result }
     ensures crash { IsTrue F.tells → GoesAlong Everywhere (λ g. removal_of list.now ∷ []) (F.drive files.old)
         (F.drive files.new) }

@@ -1,6 +1,6 @@
 // Outputs: what a write takes, and a whole text written piece by piece.
 ghost use Rattle.std.specs.Prelude.{◌≡◌, ◌≤◌, Bool, length, drop};
-ghost use Rattle.file_store.specs.Tape.{Tape, IsLater, PieceEnds, WholeEnds};
+ghost use Rattle.file_store.specs.Tape.{Tape, CountsBoth, PieceEnds, WholeEnds};
 
 use crate::errors::SinkErr;
 
@@ -14,7 +14,7 @@ pub trait Sink {
 
     /// How many bytes of the piece were taken.
     fn write(&mut self, piece: &[u8]) -> Result<usize, SinkErr>
-        ensures later { IsLater (tape self.old) (tape self.new) }
+        ensures later { CountsBoth (tape self.old) (tape self.new) result }
         ensures ends { PieceEnds tells piece.now (tape self.old) (tape self.new) result };
 }
 
@@ -27,7 +27,7 @@ fn rest(bytes: &[u8], done: usize) -> &[u8]
 
 /// Writes all of a text. After an error the sink has a first part of it.
 pub fn write_whole<S: Sink>(sink: &mut S, bytes: &[u8]) -> Result<(), SinkErr>
-    ensures later { IsLater (S.tape sink.old) (S.tape sink.new) }
+    ensures later { CountsBoth (S.tape sink.old) (S.tape sink.new) result }
     ensures ends { WholeEnds S.tells bytes.now (S.tape sink.old) (S.tape sink.new) result }
 {
     let mut done = 0;

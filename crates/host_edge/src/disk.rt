@@ -4,7 +4,7 @@
 // changed, beside every file that was written. Directories aren't files: they are made where a file
 // needs them, and removed where a removal leaves them empty. No call goes through a link at the
 // place itself: what stands there is looked at just before.
-ghost use Rattle.std.specs.Prelude.{◌≡◌, ◌≤◌};
+ghost use Rattle.std.specs.Prelude.{◌≡◌};
 ghost use Rattle.host_edge.specs.Silent.{IsFailure};
 
 use crate::dirty::Dirty;
@@ -83,8 +83,7 @@ impl<R: std::rt::Files + AllocGlobal + Clone + Drop> HostFiles<R> {
 
 // An error of the host: a fault that is counted, or want of memory.
 fn failure(faults: &mut u64, error: io::Error) -> FileErr
-    ensures later { faults.old ≤ faults.new }
-    ensures cause { IsFailure faults.old faults.new result }
+    ensures { IsFailure faults.old faults.new result }
 {
     if error.kind() == ErrorKind::OutOfMemory {
         return FileErr::NoMemory;

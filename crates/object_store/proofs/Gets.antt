@@ -77,8 +77,8 @@ module _ (tells : Bool) (repo : Names) (id : List ℕ) (old new : Drive) where
   abbrev pub Texts : Result (Option (Vec ℕ Global)) Trouble → Type 0
   Texts result = TextReads tells (object_place repo id) old new result
 
-  pub get_no_places : (fault : Fault) → old.faults ≤ new.faults → object_limit < length (text_of repo) → fault ≡ TooLarge (text_of repo) (length (text_of repo)) → (IsTrue tells → new.history ≡ old.history) → Gets (Err (Refused fault))
-  get_no_places fault up long is same = read_refuses (subst (λ (z : Fault). MayGet repo id z) (sym is) (inr (refl, refl, long))) up (λ t. (same t, get_large repo id (present old) long ∙ ap Some (sym is)))
+  pub get_no_places : (fault : Fault) → new.faults ≡ old.faults → object_limit < length (text_of repo) → fault ≡ TooLarge (text_of repo) (length (text_of repo)) → (IsTrue tells → new.history ≡ old.history) → Gets (Err (Refused fault))
+  get_no_places fault stood long is same = read_refuses (subst (λ (z : Fault). MayGet repo id z) (sym is) (inr (refl, refl, long))) stood (λ t. (same t, get_large repo id (present old) long ∙ ap Some (sym is)))
 
   module _ (fits : length (text_of repo) ≤ object_limit) where
     pub get_stops : (e : Trouble) → Texts (Err e) → Gets (Err e)

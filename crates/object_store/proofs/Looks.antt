@@ -137,7 +137,7 @@ module _ (tells : Bool) (repo : Names) (xs : List NewObject) (x : NewObject) (ol
         ap (λ (z : List NewObject). first_fault repo z (present old)) split
             ∙ first_here repo x (present old) xs rest fault was.answer.0 (ap (λ (g : Ground). fault_in repo x (file_at g (place_in repo x))) (sym g_is) ∙ is.answer),
       ))
-  look_fails objects rest before after Device split so_far look = record { later = omega (arith, so_far.later, look.later); cause = omega (arith, so_far.later, look.cause); told = λ t. record { same = (look.told t).same ∙ (so_far.told t).same; answer = tt } }
+  look_fails objects rest before after Device split so_far look = record { later = omega (arith, so_far.later, look.later); cause = tt; told = λ t. record { same = (look.told t).same ∙ (so_far.told t).same; answer = tt } }
   look_fails objects rest before after NoMemory split so_far look = read_starves (omega (arith, so_far.later, look.later)) (λ t. (look.told t).same ∙ (so_far.told t).same)
 
 pub files_more : (repo : Names) (x : NewObject) (before after : List Replacement) → AreFiles repo before → MayAdd repo x before after → AreFiles repo after

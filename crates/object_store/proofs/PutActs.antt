@@ -4,7 +4,7 @@ use Rattle.std.specs.declared.alloc.Global.{Global}
 use Rattle.std.proofs.lemmas.Bool.{lt-ltb, le-ltb}
 use Rattle.places.specs.All.{text_of, Names, Ground}
 use Rattle.file_store.specs.All.{Drive, GoesAlong, present, or_next, AreApart, ReplaceEnds, IsNoTmp}
-use Rattle.file_store.specs.All.{replacing}
+use Rattle.file_store.specs.All.{Counts, has_failed, replacing}
 use Rattle.file_store.specs.declared.errors.FileErr.{FileErr}
 use Rattle.file_store.specs.declared.replacing.Replacement.{Replacement}
 use Rattle.faults.specs.declared.faults.Fault.{Fault}
@@ -119,25 +119,25 @@ module _ (tells : Bool) (repo : Names) (objects : List NewObject) where
       seq _ (passes_on (early_fault repo objects) (omega arith) (λ t. (refl, early_none repo objects (present d) none)))
       (same_act (gives tt) (puts_missing repo objects) (λ t. none_missing repo objects (present d) none) done)
 
-  module _ (old mid : Drive) (later : old.faults ≤ mid.faults) (some : (length objects == 0) ≡ false) where
+  module _ (old mid : Drive) (some : (length objects == 0) ≡ false) where
     as_large : (fault : Fault) → fault ≡ TooLarge (text_of repo) (length (text_of repo)) → large repo ≡ Some fault
     as_large fault is = ap Some (sym is)
 
     may_large : (fault : Fault) → repo_limit < length (text_of repo) → fault ≡ TooLarge (text_of repo) (length (text_of repo)) → MayPut tells repo objects fault
     may_large fault long is = subst (λ (z : Fault). MayPut tells repo objects z) (sym is) (refl, refl, long)
 
-    pub put_large : (fault : Fault) → object_limit < length (text_of repo) → fault ≡ TooLarge (text_of repo) (length (text_of repo)) → (IsTrue tells → mid.history ≡ old.history) → Puts old mid (Err (Refused fault))
+    pub put_large : mid.faults ≡ old.faults → (fault : Fault) → object_limit < length (text_of repo) → fault ≡ TooLarge (text_of repo) (length (text_of repo)) → (IsTrue tells → mid.history ≡ old.history) → Puts old mid (Err (Refused fault))
     unfolding puts_objects
-    put_large fault long is same =
-        fails _ (stops_on (early_fault repo objects) (may_large fault (omega (arith, long)) is) later (λ t. (same t, early_large repo objects (present old) some long ∙ as_large fault is)))
+    put_large stood fault long is same =
+        fails _ (stops_on (early_fault repo objects) (may_large fault (omega (arith, long)) is) stood (λ t. (same t, early_large repo objects (present old) some long ∙ as_large fault is)))
 
     module _ (fits : length (text_of repo) ≤ object_limit) where
       pub put_looks : (e : Trouble) → MissingReads tells repo objects old mid (Err e) → Puts old mid (Err e)
       unfolding puts_objects
       put_looks (Refused fault) looked =
-          fails _ (stops_on (early_fault repo objects) (found_put tells repo objects fault looked.cause) later (λ t. ((looked.told t).same, early_found repo objects (present old) some fits fault (looked.told t).answer)))
-      put_looks Device looked = failed_early later looked.cause (λ t. (looked.told t).same)
-      put_looks NoMemory looked = starved_early later (λ t. (looked.told t).same)
+          fails _ (stops_on (early_fault repo objects) (found_put tells repo objects fault looked.cause) looked.later (λ t. ((looked.told t).same, early_found repo objects (present old) some fits fault (looked.told t).answer)))
+      put_looks Device looked = failed_early looked.later (λ t. (looked.told t).same)
+      put_looks NoMemory looked = starved_early looked.later (λ t. (looked.told t).same)
 
       module _ (list : Vec Replacement Global) (looked : MissingReads tells repo objects old mid (Ok list)) where
         listed : IsTrue tells → list.items ≡ staging repo 0 (missing repo objects (present old))
@@ -156,7 +156,7 @@ module _ (tells : Bool) (repo : Names) (objects : List NewObject) where
         pub put_held : (length list.items == 0) ≡ true → Puts old mid (Ok tt)
         unfolding puts_objects
         put_held none =
-            seq _ (passes_on (early_fault repo objects) later (λ t. ((looked.told t).same, late_fault t ∙ long_none repo (missing repo objects (present old)) (counted t true none))))
+            seq _ (passes_on (early_fault repo objects) looked.later (λ t. ((looked.told t).same, late_fault t ∙ long_none repo (missing repo objects (present old)) (counted t true none))))
             (same_act (gives tt) (puts_missing repo objects)
             (λ t. none_puts list.items (present mid) none ∙ ap (λ (l : List Replacement). puts_some l (present mid)) (listed t) ∙ ap (λ (g : Ground). puts_some (staging repo 0 (missing repo objects g)) (present mid)) (sym (now_same t)))
             done)
@@ -164,18 +164,18 @@ module _ (tells : Bool) (repo : Names) (objects : List NewObject) where
         module _ (filled : (length list.items == 0) ≡ false) where
           pub put_long : (fault : Fault) → repo_limit < length (text_of repo) → fault ≡ TooLarge (text_of repo) (length (text_of repo)) → Puts old mid (Err (Refused fault))
           unfolding puts_objects
-          put_long fault long is = fails _ (stops_on (early_fault repo objects) (may_large fault long is) later
+          put_long fault long is = fails _ (stops_on (early_fault repo objects) (may_large fault long is) looked.later
               (λ t. ((looked.told t).same, late_fault t ∙ long_some repo (missing repo objects (present old)) (counted t false filled) ∙ ap (λ b. cond b (large repo) None) (lt-ltb repo_limit (length (text_of repo)) long) ∙ as_large fault is)))
 
           -- the files are put
-          pub put_files : length (text_of repo) ≤ repo_limit → is_repo repo ≡ true → (slice : List Replacement) → slice ≡ list.items → AreFiles repo list.items → AreApart slice → (new : Drive) (r : Result (Unit {0}) FileErr) → mid.faults ≤ new.faults
+          pub put_files : length (text_of repo) ≤ repo_limit → is_repo repo ≡ true → (slice : List Replacement) → slice ≡ list.items → AreFiles repo list.items → AreApart slice → (new : Drive) (r : Result (Unit {0}) FileErr) → Counts (has_failed r) mid.faults new.faults
               → ReplaceEnds tells slice mid new r → (IsTrue tells → GoesAlong (IsNoTmp slice) (replacing slice) mid new) → Puts old new (in_trouble r)
           unfolding puts_objects
-          put_files short is slice same (some_objects, made_of, own) apart new r up ends goes =
+          put_files short is slice same (some_objects, made_of, own) apart new r counts ends goes =
               let made : slice ≡ staging repo 0 some_objects = same ∙ made_of in
               let can : CanReplace slice = subst CanReplace (sym made) (staging_can repo some_objects is (subst AreApart made apart)) in
-              seq _ (passes_on (early_fault repo objects) later (λ t. ((looked.told t).same, late_fault t ∙ long_fits repo (missing repo objects (present old)) short)))
+              seq _ (passes_on (early_fault repo objects) looked.later (λ t. ((looked.told t).same, late_fault t ∙ long_fits repo (missing repo objects (present old)) short)))
               (same_act (puts slice) (puts_missing repo objects)
               (λ t. ap (λ (l : List Replacement). puts l (present mid)) same ∙ some_puts list.items (present mid) filled
               ∙ ap (λ (l : List Replacement). puts_some l (present mid)) (listed t) ∙ ap (λ (g : Ground). puts_some (staging repo 0 (missing repo objects g)) (present mid)) (sym (now_same t)))
-              (handed (λ fault may. block_put tells repo objects fault may) (replaces tells slice can mid new r up ends goes)))
+              (handed (λ fault may. block_put tells repo objects fault may) (replaces tells slice can mid new r counts ends goes)))

@@ -26,7 +26,7 @@ bytes_of (file ∷ files) = length file.1 + bytes_of files
 
 -- what was read so far
 pub record SoFar (tells : Bool) (root : Names) (files : List WorkingFile) (sum : ℕ) (objects : List NewObject) (old new : Drive) : Type 0 where
-  pub later : old.faults ≤ new.faults
+  pub later : new.faults ≡ old.faults
   pub same : IsTrue tells → new.history ≡ old.history
   pub blobs : IsTrue tells → AreThere root (present old) files → AreBlobs root (present old) files objects
   pub sum_is : IsTrue tells → AreThere root (present old) files → sum ≡ bytes_of (map (work_of root (present old)) files)
@@ -35,9 +35,9 @@ present_is : (old new : Drive) → new.history ≡ old.history → present new �
 present_is old new same = ap (λ (h : History). h.latest.now) same
 
 -- A FILE that isn't as it was found
-pub dirty_reads : (tells : Bool) (root : Names) (file : WorkingFile) (before : ℕ) (old new : Drive) → old.faults ≤ new.faults → (IsTrue tells → new.history ≡ old.history)
+pub dirty_reads : (tells : Bool) (root : Names) (file : WorkingFile) (before : ℕ) (old new : Drive) → new.faults ≡ old.faults → (IsTrue tells → new.history ≡ old.history)
     → (IsTrue tells → IsThere root (present old) file → ⊥) → BlobReads tells root file before old new (Err (Refused (Dirty file.path)))
-dirty_reads tells root file before old new up same not = read_refuses not up (λ t. (same t, λ there. absurd (not t there)))
+dirty_reads tells root file before old new stood same not = read_refuses not stood (λ t. (same t, λ there. absurd (not t there)))
 
 -- LISTS with one more
 pub map_more : {A B : Type 0} (f : A → B) (xs : List A) (x : A) (rest : List A) → map f (xs ++ x ∷ rest) ≡ map f xs ++ f x ∷ map f rest

@@ -1,12 +1,9 @@
 -- What follows for a dataset that was being made: each place old or new, HEAD last, held objects stay.
-use Rattle.std.proofs.Common.{◌≡◌, ◌≢◌, ◌⊎◌, inl, inr, ⊎_elim, ℕ, false, ◌||◌, ◌&&◌, List, [], ◌∷◌, ◌++◌, Option, None, Some, refl, sym, ap, ◌∙◌, subst}
-use Rattle.std.specs.Prelude.{bytes_eq}
-use Rattle.std.proofs.lemmas.Bool.{false≢true, false_from_ne_true}
-use Rattle.std.proofs.lemmas.Slice.Eq.{bytes_eq-Decides}
+use Rattle.std.proofs.Common.{◌≡◌, ◌≢◌, ◌⊎◌, inl, inr, ⊎_elim, ℕ, false, List, [], ◌∷◌, ◌++◌, Option, None, Some, refl, sym, ap, ◌∙◌, subst}
+use Rattle.std.proofs.lemmas.Bool.{false≢true}
 use Rattle.places.specs.All.{Names, IsAbove, has_name, Ground, file_at}
 use Rattle.places.proofs.Grounds.{cases_place}
 use Rattle.places.proofs.Above.{is_above-complete}
-use Rattle.places.proofs.Texts.{or_neither}
 use Rattle.file_store.specs.All.{present, Round, changed, finally, WasOpen, IsBetween, IsAlong}
 use Rattle.faults.specs.declared.faults.Fault.{Fault}
 use Rattle.file_store.proofs.Moments.{weaken}
@@ -15,7 +12,7 @@ use Rattle.file_store.proofs.Rounds.{LeftBy}
 use Rattle.file_store.proofs.Consequences.{now_along, image_along, AllLeave, AtMostOnce, never, not_here, not_later, finally_other, once_of, each_place, last_place}
 use Rattle.git_objects.specs.All.{oid, hex_of}
 use Rattle.git_objects.specs.declared.ids.Id.{Id}
-use Rattle.repository.specs.All.{is_tmp, is_below_tmp, IsOutside, object_place, dlrepo, repo_of}
+use Rattle.repository.specs.All.{IsOutside, object_place, dlrepo, repo_of}
 use Rattle.repository.specs.All.{config_place, settings_place, main_place, head_place}
 use Rattle.acts.specs.All.{Act, Refuses, still, none_loose, rounds_in, last_of, IsFirm, Nothing}
 use Rattle.acts.specs.All.{OldOrNew, NewWithAll}
@@ -29,7 +26,7 @@ use Rattle.recursive_save.specs.Laws.{CreateKeeps}
 use Rattle.recursive_save.specs.Remains.{HeldStay, SameOutside, CreateRemains}
 use Rattle.repository.proofs.Parts.{Part, Object, Config, Settings, Main, Head, names_at, part_below, object_is, settings_is, main_is, head_is, other_part}
 use Rattle.recursive_save.proofs.Clear.{free_at}
-use Rattle.repository.proofs.Unfinished.{firm_outside}
+use Rattle.repository.proofs.Unfinished.{firm_outside, head_firm}
 use Rattle.recursive_save.proofs.Made.{whole_rounds, made_act, create_made, create_refused, vacant_of, last_same, rounds_same}
 
 module _ (root : Names) (parts : Parts) where
@@ -131,16 +128,8 @@ module _ (root : Names) (parts : Parts) where
         (old_or_new q outside)
 
 -- HEAD is no unfinished write
-not_tmp : (root : Names) → has_name dlrepo root ≡ false → is_tmp (root ++ names_at Head) ≡ false
-unfolding is_tmp
-not_tmp [] none = refl
-not_tmp (name ∷ root) none =
-    let parts = or_neither (bytes_eq dlrepo name) (has_name dlrepo root) none in
-    let other : bytes_eq name dlrepo ≡ false = false_from_ne_true (bytes_eq name dlrepo) (λ is. false≢true (sym parts.0 ∙ (bytes_eq-Decides dlrepo name).1 (sym ((bytes_eq-Decides name dlrepo).0 is)))) in
-    λ i. (other i && is_below_tmp (root ++ names_at Head)) || not_tmp root parts.1 i
-
-head_firm : (root : Names) → has_name dlrepo root ≡ false → IsFirm none_loose (head_place root)
-head_firm root none = record { outside = ap is_tmp (head_is root) ∙ not_tmp root none; firm = refl }
+head_fixed : (root : Names) → IsFirm none_loose (head_place root)
+head_fixed root = record { outside = head_firm root; firm = refl }
 
 -- the same rounds at fewer places
 pub same_fewer : (F G : Names → Type 0) → ((q : Names) → G q → F q) → (g h : Ground) (rs ss : List Round) → SameRounds F g rs h ss → SameRounds G g rs h ss
@@ -210,7 +199,7 @@ module _ (Else : Names → Option (List ℕ) → Type 0) (g x : Ground) (root : 
   pub remains : has_name dlrepo root ≡ false → IsAlong (IsFirm (create_step (new_dataset root moment fresh) g).loose) Else g (rounds_in (create_step (new_dataset root moment fresh) g)) x
       → CreateRemains (new_dataset root moment fresh) Else g x
   remains clear along =
-      let left = of_fault (head_firm root clear) (create_fault root g) refl along in
+      let left = of_fault (head_fixed root) (create_fault root g) refl along in
       record { places = left.places; outside = left.outside; head = left.head; held = left.held }
 
 -- at every moment: what stands, and what a crash leaves

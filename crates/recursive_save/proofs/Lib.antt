@@ -6,6 +6,7 @@ pub mod ChangedFiles
 pub mod ChangedLines
 pub mod Clear
 pub mod Colliding
+pub mod Complete
 pub mod Configured
 pub mod Consequences
 pub mod Creation

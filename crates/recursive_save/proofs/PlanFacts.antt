@@ -125,8 +125,8 @@ module _ (tells : Bool) (root : Names) (wish : SaveWish) (view : View) where
         blobs
 
     module _ {blobs : Vec NewObject Global} (put : BlobsRead tells root files mid new (Ok blobs)) where
-      up : old.faults ≤ new.faults
-      up = omega (arith, reads.later, put.later)
+      stood : new.faults ≡ old.faults
+      stood = omega (arith, reads.later, put.later)
 
       both : (t : IsTrue tells) → (new.history ≡ old.history) × (AreThere root (present old) files → AreBlobs root (present old) files blobs.items)
       both t =
@@ -159,12 +159,12 @@ module _ (tells : Bool) (root : Names) (wish : SaveWish) (view : View) where
           )
 
       pub plan_ends : (IsTrue tells → IsGround (present old)) → (r : Result Planned Trouble) → ((work : List WorkFile) → HasWork view work → IfOk r (λ planned. IsPlanWith (plain_config config) view wish blobs.items work (plan_of planned))) → IfErr r (PlanFails view) → PlanReads old new r
-      plan_ends grounded (Ok planned) made fails = read_gives up (λ t. ((both t).0, planned_is t planned made))
-      plan_ends grounded (Err NoMemory) made fails = read_starves up (λ t. (both t).0)
+      plan_ends grounded (Ok planned) made fails = read_gives stood (λ t. ((both t).0, planned_is t planned made))
+      plan_ends grounded (Err NoMemory) made fails = read_starves stood (λ t. (both t).0)
       plan_ends grounded (Err (Refused (PathClash path))) made fails =
           let not : IsTrue tells → ⊥ = λ t.
           no_clash root (present old) view.old (working root (present old)) path (grounded t) (all_standing root (present old) (looked t).read.walk)
           (fails (working root (present old)) (looked t).files) in
-          read_refuses not up (λ t. absurd (not t))
+          read_refuses not stood (λ t. absurd (not t))
       plan_ends grounded (Err (Refused fault)) made fails = absurd fails
       plan_ends grounded (Err Device) made fails = absurd fails

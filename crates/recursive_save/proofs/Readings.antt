@@ -16,11 +16,11 @@ same_refusal IsAnswer IsOther IsRefusal IsMore g f NoMemory h = tt
 
 -- a reading that was refused, after others whose answers, where they are told, say why
 pub read_fails : {A B : Type 0} {may more : Fault → Type 0} {tells : Bool} {IsAnswer : Ground → A → Type 0} {IsOther : Ground → B → Type 0} {IsRefusal IsMore : Ground → Fault → Type 0} {old mid new : Drive} {t : Trouble}
-    → ((fault : Fault) → may fault → more fault) → old.faults ≤ mid.faults → (IsTrue tells → mid.history ≡ old.history)
+    → ((fault : Fault) → may fault → more fault) → mid.faults ≡ old.faults → (IsTrue tells → mid.history ≡ old.history)
     → (IsTrue tells → (fault : Fault) → IsRefusal (present old) fault → IsMore (present old) fault)
     → Reads may tells IsAnswer IsRefusal mid new (Err t) → Reads more tells IsOther IsMore old new (Err t)
-read_fails {A} {B} {may} {more} {tells} {IsAnswer} {IsOther} {IsRefusal} {IsMore} {old} {mid} {new} {t} f up same g reads =
-    let later : Reads may tells IsAnswer IsRefusal old new (Err t) = read_after up same reads in
+read_fails {A} {B} {may} {more} {tells} {IsAnswer} {IsOther} {IsRefusal} {IsMore} {old} {mid} {new} {t} f stood same g reads =
+    let later : Reads may tells IsAnswer IsRefusal old new (Err t) = read_after stood same reads in
     let all : Reads more tells IsAnswer IsRefusal old new (Err t) = read_err f (λ fault h. h) later in
     record {
       later = all.later;

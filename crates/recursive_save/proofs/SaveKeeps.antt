@@ -27,7 +27,6 @@ use Rattle.dataset.proofs.Commits.{tree_full}
 use Rattle.dataset.proofs.Moments.{moments_intact, end_sound, end_settled}
 use Rattle.dataset.proofs.Refs.{is_done}
 use Rattle.dataset.proofs.Saving.{flat_save, neither, no_fault_free}
-use Rattle.dataset.proofs.Splits.{head_no_tmp}
 use Rattle.dataset.proofs.Steps.{bind_keeps, none_watched, still_steps}
 use Rattle.tree_status.specs.All.{working}
 use Rattle.recursive_save.specs.Changes.{added, leaf_at, new_entries}
@@ -83,10 +82,7 @@ module _ (root : Names) (wish : SaveWish) (g : Ground) (outside : IsRoot root) (
   is_dataset : IsDataset root g
   is_dataset =
       let none = neither (head_fault repo g) (lead_fault repo g (head_at repo g)) read.tip.0 in
-      record {
-        head = head_stands (repo_head repo) (file_at g (repo_head repo)) (neither (long_place (repo_head repo)) (damaged_unless (repo_head repo) (head_at repo g)) none.0).1;
-        outside = head_no_tmp root outside;
-      }
+      head_stands (repo_head repo) (file_at g (repo_head repo)) (neither (long_place (repo_head repo)) (damaged_unless (repo_head repo) (head_at repo g)) none.0).1
 
   at : IsSoundAt root g
   at = sound root is_dataset

@@ -339,6 +339,14 @@ module _ (root : Names) (Else : Names → Option (List ℕ) → Type 0) (g x : G
       last = λ at along. as_new (changed two (changed one g)) (two_last (λ q. IsSaid q) Else x tip (firm tip at) two (λ q said differ. only_tip q said.outside differ) one (tip_kept at) g along);
     }
 
+-- a put of objects leaves HEAD as it is
+pub head_kept : (root : Names) (plan : SavePlan) (g : Ground) → file_at (put_ground root plan g) (repo_head (repo_of root)) ≡ file_at g (repo_head (repo_of root))
+head_kept root plan g = by (rounds_in (puts_objects (repo_of root) plan.objects g)) (put_most root plan g).rounds
+  where
+    by : (rounds : List Round) → (rounds ≡ []) ⊎ (rounds ≡ put_round root plan g ∷ []) → file_at (finally rounds g) (repo_head (repo_of root)) ≡ file_at g (repo_head (repo_of root))
+    by rounds (inl e) = ap (λ (rs : List Round). file_at (finally rs g) (repo_head (repo_of root))) e
+    by rounds (inr e) = ap (λ (rs : List Round). file_at (finally rs g) (repo_head (repo_of root))) e ∙ changed_other (put_round root plan g) g (repo_head (repo_of root)) (head_left root g plan.objects)
+
 -- THE SAVE
 module _ (Else : Names → Option (List ℕ) → Type 0) (g x : Ground) (root : Names) where
   abbrev Left : Act (Option Id) → Type 0
@@ -353,14 +361,10 @@ module _ (Else : Names → Option (List ℕ) → Type 0) (g x : Ground) (root : 
     abbrev branch : Option (List ℕ)
     branch = branch_by (head_at (repo_of root) g)
 
-    put_head : (rounds : List Round) → (rounds ≡ []) ⊎ (rounds ≡ put_round root plan g ∷ []) → file_at (finally rounds g) (repo_head (repo_of root)) ≡ file_at g (repo_head (repo_of root))
-    put_head rounds (inl e) = ap (λ (rs : List Round). file_at (finally rs g) (repo_head (repo_of root))) e
-    put_head rounds (inr e) = ap (λ (rs : List Round). file_at (finally rs g) (repo_head (repo_of root))) e ∙ changed_other (put_round root plan g) g (repo_head (repo_of root)) (head_left root g plan.objects)
-
     -- the tip's place is that of the ground at the start
     same_tip : tip_round root plan g ≡ whole_round (only (tmp_place (repo_of root) 0) (tip_place (repo_of root) branch) (id_text plan.commit))
     same_tip = ap (λ (file : Option (List ℕ)). whole_round (only (tmp_place (repo_of root) 0) (tip_place (repo_of root) (branch_by (given head_given file))) (id_text plan.commit)))
-        (put_head (rounds_in (puts_objects (repo_of root) plan.objects g)) (put_most root plan g).rounds)
+        (head_kept root plan g)
 
     of_two : (act : Act (Option Id)) → OfTwo act (put_round root plan g) (tip_round root plan g) → Left act
     of_two act two along = by two.rounds

@@ -10,8 +10,9 @@ use Rattle.places.proofs.Texts.{pieces_some, pieces-append, SomeParts}
 use Rattle.file_store.specs.All.{or_next}
 use Rattle.faults.specs.declared.faults.Fault.{Fault}
 use Rattle.faults.specs.declared.faults.Fault.TheVariants.{TooLarge}
+use Rattle.repository.specs.All.{item_limit}
 use Rattle.tree_status.specs.All.{walk_fault, working, as_file, ItemKind, Directory, Nested}
-use Rattle.tree_status.specs.All.{Working, items, item_kind, is_nested, item_limit, git_file_limit}
+use Rattle.tree_status.specs.All.{Working, items, item_kind, is_nested, git_file_limit}
 use Rattle.tree_status.specs.All.{directory_of, item_fault, fault_along, files_among}
 use Rattle.tree_status.proofs.Items.{IsFound, each_item, whole_of, pieces_of}
 use Rattle.tree_status.proofs.Paths.{names_whole}

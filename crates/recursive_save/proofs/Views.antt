@@ -117,24 +117,24 @@ module _ (tells : Bool) (root : Names) where
           let was = read_after {IsAnswer = λ g list. IsFlat (repo_of root) parent.0 g list} tip.later (λ t. (tip.told t).same) flat in
           ((was.told t).same, (tip.told t).answer, (was.told t).answer)
 
-      up : old.faults ≤ new.faults
-      up = omega (arith, tip.later, flat.later)
+      stood : new.faults ≡ old.faults
+      stood = omega (arith, tip.later, flat.later)
 
       pub pin_fails : (fault : Fault) → pin_fault list ≡ Some fault → ViewReads old new (Err (Refused fault))
-      pin_fails fault e = read_refuses (pin_may tells root list fault e) up (λ t.
+      pin_fails fault e = read_refuses (pin_may tells root list fault e) stood (λ t.
           let was = both t in
           (was.0, inr (parent.0, was.1, inr (list, was.2, pin_first root (present old) list fault e))))
 
       module _ (none : pin_fault list ≡ None) {last : Drive} where
         pub work_fails : {e : Trouble} → WorkReads new last (Err e) → ViewReads old last (Err e)
-        work_fails work = read_fails (walk_may tells root) up (λ t. (both t).0) (λ t fault h.
+        work_fails work = read_fails (walk_may tells root) stood (λ t. (both t).0) (λ t fault h.
             let was = both t in
             inr (parent.0, was.1, inr (list, was.2, walk_next root (present old) list fault none h))) work
 
         pub work_gives : (files : Vec WorkingFile Global) → WorkReads new last (Ok files) → ViewReads old last (Ok (record { parent = parent; old = list; files = files }))
-        work_gives files work = read_gives (omega (arith, up, work.later)) (λ t.
+        work_gives files work = read_gives (omega (arith, stood, work.later)) (λ t.
             let was = both t in
-            let now = (read_after {IsAnswer = λ g (list : Vec WorkingFile Global). AreWorking root g list.items} up (λ t. (both t).0) work).told t in (
+            let now = (read_after {IsAnswer = λ g (list : Vec WorkingFile Global). AreWorking root g list.items} stood (λ t. (both t).0) work).told t in (
               now.same,
               record {
                 read = record { tip = was.1; flat = was.2; plain = none; walk = now.answer.0 };
@@ -145,6 +145,6 @@ module _ (tells : Bool) (root : Names) where
         -- files that tell are never refused for their paths
         pub order_fails : (files : Vec WorkingFile Global) (path : List ℕ) → WorkReads new last (Ok files) → (ArePaths files.items → ⊥) → ViewReads old last (Err (Refused (Dirty path)))
         order_fails files path work disordered =
-            let all = read_after {IsAnswer = λ g (list : Vec WorkingFile Global). AreWorking root g list.items} up (λ t. (both t).0) work in
+            let all = read_after {IsAnswer = λ g (list : Vec WorkingFile Global). AreWorking root g list.items} stood (λ t. (both t).0) work in
             let untold : IsTrue tells → ⊥ = λ t. disordered (told_paths root (present old) files.items (all.told t).answer) in
-            read_refuses untold (omega (arith, up, work.later)) (λ t. absurd (untold t))
+            read_refuses untold (omega (arith, stood, work.later)) (λ t. absurd (untold t))

@@ -10,11 +10,8 @@ use crate::first::text;
 use config_text::{ConfErr, RepoConfig};
 use faults::{Fault, Trouble};
 use file_store::{Files, Place};
-use repository::too_large;
+use repository::{PLACE_LIMIT, too_large};
 use std::alloc::{AllocError, Global};
-
-/// The longest text of a place, in bytes.
-const PLACE_LIMIT: usize = 4096;
 
 /// How many bytes a configuration may have.
 const SETTINGS_LIMIT: u64 = 1_048_576;

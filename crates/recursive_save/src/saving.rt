@@ -21,11 +21,8 @@ use file_store::{Files, Place};
 use git_objects::Id;
 use object_store::put_all;
 use ref_store::set_tip;
-use repository::too_large;
+use repository::{PLACE_LIMIT, too_large};
 use std::alloc::{AllocError, Global};
-
-// The longest text of a place, in bytes.
-const PLACE_LIMIT: usize = 4096;
 
 // The repository of a dataset, refused where HEAD has no place in it.
 #[tactic(auto, unfolding(places::specs::Names::is_path, places::specs::Names::is_name))]

@@ -14,7 +14,8 @@ use Rattle.git_objects.specs.All.{IsId}
 use Rattle.repository.specs.All.{Head, id_text, head_of, dlrepo, repo_of, repo_head, branch_place}
 use Rattle.repository.specs.All.{tip_place, tmp_place, is_tmp}
 use Rattle.repository.proofs.HeadTexts.{id_in-text, branch_in-only}
-use Rattle.repository.proofs.Heading.{IsDetached, IsOnBranch, how_read, reads_detached, reads_on_branch, head_firm, branch_place_firm}
+use Rattle.repository.proofs.Heading.{IsDetached, IsOnBranch, how_read, reads_detached, reads_on_branch, branch_place_firm}
+use Rattle.repository.proofs.Unfinished.{head_firm}
 use Rattle.repository.proofs.Temporary.{outside_apart}
 use Rattle.acts.specs.All.{Act, Gives, Step, still, rounds_in, ending_of, unless, bind, go_on}
 use Rattle.acts.specs.All.{IsFirm, whole_round, put_act, puts}
@@ -89,7 +90,7 @@ module _ (Else : Names → Option (List ℕ) → Type 0) (g x : Ground) (root : 
 
   module _ (each : (q : Names) → is_tmp q ≡ false → q ≢ tmp_place repo 0 → Lies Else g x (tmp_place repo 0) (tip_place repo head.branch) (id_text id) q) where
     at_head : Lies Else g x (tmp_place repo 0) (tip_place repo head.branch) (id_text id) (repo_head repo)
-    at_head = each (repo_head repo) (head_firm root clear) (outside_apart repo (repo_head repo) 0 (tip_outside repo None))
+    at_head = each (repo_head repo) (head_firm root) (outside_apart repo (repo_head repo) 0 (tip_outside repo None))
 
     when_detached : IsDetached (file_at g (repo_head repo)) head → IsOldOrNew repo head id x ⊎ ElseThere
     when_detached is = ⊎_elim

@@ -3,9 +3,8 @@ use Rattle.std.proofs.Common.{inl, inr, ◌≡◌, ◌≢◌, ◌≤◌, ◌<◌
 use Rattle.std.specs.Prelude.{codes, decimal, slice_get}
 use Rattle.std.proofs.lemmas.Bool.{lt-ltb, le-ltb}
 use Rattle.places.specs.All.{Names, text_of, pieces}
-use Rattle.places.proofs.Above.{is_above-under}
 use Rattle.file_store.specs.All.{Drive, History, GoesAlong, present, or_next, only, ReplaceEnds}
-use Rattle.file_store.specs.All.{IsNoTmp, replacing}
+use Rattle.file_store.specs.All.{Counts, has_failed, IsNoTmp, replacing}
 use Rattle.file_store.specs.declared.errors.FileErr.{FileErr}
 use Rattle.file_store.specs.declared.replacing.Replacement.{Replacement}
 use Rattle.file_store.proofs.OneFile.{apart_only}
@@ -16,7 +15,7 @@ use Rattle.faults.specs.declared.faults.Trouble.TheVariants.{Refused, Device, No
 use Rattle.repository.specs.All.{id_text, repo_head, tip_place, tmp_place, tmp_names, in_tmp}
 use Rattle.repository.specs.All.{repo_limit, large, is_tmp, is_repo}
 use Rattle.repository.proofs.Temporary.{outside_apart}
-use Rattle.repository.proofs.Unfinished.{repo_tmp}
+use Rattle.repository.proofs.Unfinished.{repo_tmp, is_in-under}
 use Rattle.acts.specs.All.{ActsQuietly, puts, CanReplace, MayBlock}
 use Rattle.acts.proofs.Laws.{seq, fails, handed, starved_early, failed_early, passes_on, stops_on, same_act}
 use Rattle.acts.proofs.Replaces.{replaces, in_trouble}
@@ -28,8 +27,8 @@ use Rattle.ref_store.specs.declared.heads.Head.{Head}
 
 -- the tip's file is no temporary one
 pub tip_outside : (repo : Names) (branch : Option (List ℕ)) → in_tmp repo (tip_place repo branch) ≡ false
-tip_outside repo None = is_above-under repo tmp_names (codes "HEAD" ∷ [])
-tip_outside repo (Some name) = is_above-under repo tmp_names (codes "refs" ∷ codes "heads" ∷ pieces name)
+tip_outside repo None = is_in-under repo tmp_names (codes "HEAD" ∷ [])
+tip_outside repo (Some name) = is_in-under repo tmp_names (codes "refs" ∷ codes "heads" ∷ pieces name)
 
 pub tip_apart : (repo tmp place : Names) (branch : Option (List ℕ)) → tmp ≡ tmp_place repo 0 → place ≡ tip_place repo branch → tmp ≢ place
 tip_apart repo tmp place branch at_tmp at_place e = outside_apart repo (tip_place repo branch) 0 (tip_outside repo branch) (sym at_place ∙ sym e ∙ at_tmp)
@@ -76,7 +75,7 @@ module _ (tells : Bool) (repo : Names) (id : List ℕ) (old mid : Drive) where
   unfolding sets_tip
   tip_unread (Refused fault) read =
       fails _ (stops_on (set_fault repo) (read_set tells repo fault read.cause) read.later (λ t. ((read.told t).same, ap (λ (o : Option Fault). or_next o (long_repo repo)) (read.told t).answer)))
-  tip_unread Device read = failed_early read.later read.cause (λ t. (read.told t).same)
+  tip_unread Device read = failed_early read.later (λ t. (read.told t).same)
   tip_unread NoMemory read = starved_early read.later (λ t. (read.told t).same)
 
   module _ (head : Head) (read : HeadReads tells repo old mid (Ok head)) where
@@ -93,10 +92,10 @@ module _ (tells : Bool) (repo : Names) (id : List ℕ) (old mid : Drive) where
 
     -- the file is put
     pub tip_put : is_repo repo ≡ true → length (text_of repo) ≤ repo_limit → (tmp place : Names) (bytes : List ℕ) → tmp ≡ tmp_place repo 0 → place ≡ tip_place repo (branch_of head) → bytes ≡ id_text id
-        → (new : Drive) (r : Result (Unit {0}) FileErr) → mid.faults ≤ new.faults → ReplaceEnds tells (only tmp place bytes) mid new r
+        → (new : Drive) (r : Result (Unit {0}) FileErr) → Counts (has_failed r) mid.faults new.faults → ReplaceEnds tells (only tmp place bytes) mid new r
         → (IsTrue tells → GoesAlong (IsNoTmp (only tmp place bytes)) (replacing (only tmp place bytes)) mid new) → SetsTip new (in_trouble r)
     unfolding sets_tip
-    tip_put is fits tmp place bytes at_tmp at_place text new r up ends goes =
+    tip_put is fits tmp place bytes at_tmp at_place text new r counts ends goes =
         let can = can_replace repo tmp place bytes is at_tmp (tip_apart repo tmp place (branch_of head) at_tmp at_place) in
         seq _ (passes_on (set_fault repo) read.later (λ t. ((read.told t).same, ap (λ (o : Option Fault). or_next o (long_repo repo)) (read.told t).answer.0 ∙ fits_is repo fits)))
         (same_act (puts (only tmp place bytes)) (λ g. puts_one repo (tip_at repo g) (id_text id) g)
@@ -104,7 +103,7 @@ module _ (tells : Bool) (repo : Names) (id : List ℕ) (old mid : Drive) where
         let found : head_at repo (present mid) ≡ Some head = ap (head_at repo) (present_same old mid (read.told t).same) ∙ (read.told t).answer.1 in
         let there : place ≡ tip_at repo (present mid) = at_place ∙ sym (ap (λ (o : Option Head). tip_place repo (branch_by o)) found) in
         λ i. puts (only (at_tmp i) (there i) (text i)) (present mid))
-        (handed (λ fault may. block_tip tells repo fault may) (replaces tells (only tmp place bytes) can mid new r up ends goes)))
+        (handed (λ fault may. block_tip tells repo fault may) (replaces tells (only tmp place bytes) can mid new r counts ends goes)))
 
 -- ---- the exits of a setting of HEAD
 module _ (tells : Bool) (repo : Names) (head : Head) (old : Drive) where
@@ -117,12 +116,12 @@ module _ (tells : Bool) (repo : Names) (head : Head) (old : Drive) where
       fails _ (stops_on (λ g. long_repo repo) (subst (λ (z : Fault). MaySetHead tells repo z) (sym is) (refl, refl, long)) (omega arith) (λ t. (refl, long_is repo fault long is)))
 
   pub head_put : is_repo repo ≡ true → length (text_of repo) ≤ repo_limit → (tmp place : Names) (bytes : List ℕ) → tmp ≡ tmp_place repo 0 → place ≡ repo_head repo → bytes ≡ head_text head
-      → (new : Drive) (r : Result (Unit {0}) FileErr) → old.faults ≤ new.faults → ReplaceEnds tells (only tmp place bytes) old new r
+      → (new : Drive) (r : Result (Unit {0}) FileErr) → Counts (has_failed r) old.faults new.faults → ReplaceEnds tells (only tmp place bytes) old new r
       → (IsTrue tells → GoesAlong (IsNoTmp (only tmp place bytes)) (replacing (only tmp place bytes)) old new) → SetsHead new (in_trouble r)
   unfolding sets_head
-  head_put is fits tmp place bytes at_tmp at_place text new r up ends goes =
+  head_put is fits tmp place bytes at_tmp at_place text new r counts ends goes =
       let can = can_replace repo tmp place bytes is at_tmp (tip_apart repo tmp place None at_tmp at_place) in
       seq _ (passes_on (λ g. long_repo repo) (omega arith) (λ t. (refl, fits_is repo fits)))
       (same_act (puts (only tmp place bytes)) (puts_one repo (repo_head repo) (head_text head))
       (λ t i. puts (only (at_tmp i) (at_place i) (text i)) (present old))
-      (handed (λ fault may. block_head tells repo fault may) (replaces tells (only tmp place bytes) can old new r up ends goes)))
+      (handed (λ fault may. block_head tells repo fault may) (replaces tells (only tmp place bytes) can old new r counts ends goes)))

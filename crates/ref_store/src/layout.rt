@@ -8,11 +8,8 @@ ghost use Rattle.ref_store.specs.Layout.{IsPlaced, branch_path};
 use crate::heads::Head;
 use faults::Trouble;
 use places::{Place, Text};
-use repository::too_large;
+use repository::{PLACE_LIMIT, too_large};
 use std::alloc::{AllocError, Global};
-
-// The longest text of a place, in bytes.
-const PLACE_LIMIT: usize = 4096;
 
 // The place at a path, refused where it is longer than places are.
 fn place_at(alloc: Global, repo: &Place, path: &str) -> Result<Place, Trouble>

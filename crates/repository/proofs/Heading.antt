@@ -1,15 +1,13 @@
 -- How a head is read: where it is detached, and where it is on a branch.
-use Rattle.std.proofs.Common.{◌≡◌, ◌⊎◌, inl, inr, ℕ, true, false, ◌||◌, ◌&&◌, List, [], ◌∷◌, ◌++◌, Option, Some, None, refl, sym, ap, ◌∙◌, append_assoc}
-use Rattle.std.specs.Prelude.{option_map, codes, bytes_eq}
-use Rattle.std.proofs.lemmas.Bool.{false≢true, false_from_ne_true}
-use Rattle.std.proofs.lemmas.Slice.Eq.{bytes_eq-Decides}
+use Rattle.std.proofs.Common.{◌≡◌, ◌⊎◌, inl, inr, ℕ, true, false, List, [], ◌∷◌, Option, Some, None, refl, sym, ap, ◌∙◌, append_assoc}
+use Rattle.std.specs.Prelude.{option_map, codes}
 use Rattle.places.specs.All.{Names, pieces, has_name}
-use Rattle.places.proofs.Texts.{or_neither}
 use Rattle.repository.specs.Heads.{Head, id_in, is_branch, branch_in, tip_in, on_branch}
 use Rattle.repository.specs.Heads.{detached_or, head_in}
-use Rattle.repository.specs.Layout.{dlrepo, repo_of, repo_head, branch_place}
-use Rattle.repository.specs.Unfinished.{is_tmp, is_below_tmp}
+use Rattle.repository.specs.Layout.{dlrepo, repo_of, branch_place}
+use Rattle.repository.specs.Unfinished.{is_tmp}
 use Rattle.repository.proofs.BranchNames.{branch_firm}
+use Rattle.repository.proofs.Unfinished.{tmp_below_root}
 
 -- HEAD's file names the head's commit itself
 pub record IsDetached (file : Option (List ℕ)) (head : Head) : Type 0 where
@@ -82,24 +80,10 @@ reads_on_branch files file head is =
     ∙ ap (tip_in (Some is.name)) is.there
     ∙ tip_reads (Some is.name) is.tip head is.branch is.leads
 
--- ---- the files of heads are no unfinished writes
-
-root_firm : (root names : Names) → has_name dlrepo root ≡ false → is_tmp names ≡ false → is_tmp (root ++ names) ≡ false
-unfolding is_tmp
-root_firm [] names clear firm = firm
-root_firm (name ∷ root) names clear firm =
-    let parts = or_neither (bytes_eq dlrepo name) (has_name dlrepo root) clear in
-    let other : bytes_eq name dlrepo ≡ false = false_from_ne_true (bytes_eq name dlrepo) (λ is. false≢true (sym parts.0 ∙ (bytes_eq-Decides dlrepo name).1 (sym ((bytes_eq-Decides name dlrepo).0 is)))) in
-    λ i. (other i && is_below_tmp (root ++ names)) || root_firm root names parts.1 firm i
-
-head_names_firm : is_tmp (dlrepo ∷ codes "HEAD" ∷ []) ≡ false
-unfolding is_tmp
-head_names_firm = refl
-
-pub head_firm : (root : Names) → has_name dlrepo root ≡ false → is_tmp (repo_head (repo_of root)) ≡ false
-head_firm root clear = ap is_tmp (append_assoc root (dlrepo ∷ []) (codes "HEAD" ∷ [])) ∙ root_firm root (dlrepo ∷ codes "HEAD" ∷ []) clear head_names_firm
+-- ---- a branch's file is no unfinished write
 
 pub branch_place_firm : (root : Names) (name : List ℕ) → has_name dlrepo root ≡ false → is_branch name ≡ true → is_tmp (branch_place (repo_of root) name) ≡ false
 branch_place_firm root name clear named =
     ap is_tmp (append_assoc root (dlrepo ∷ []) (codes "refs" ∷ codes "heads" ∷ pieces name))
-    ∙ root_firm root (dlrepo ∷ codes "refs" ∷ codes "heads" ∷ pieces name) clear (branch_firm name named)
+    ∙ tmp_below_root root (dlrepo ∷ codes "refs" ∷ codes "heads" ∷ pieces name) clear
+    ∙ branch_firm name named

@@ -2,10 +2,11 @@
 use Rattle.std.proofs.Common.{◌≡◌, ◌≢◌, ℕ, Bool, true, false, ◌&&◌, List, [], ◌∷◌, ◌++◌, take, drop, refl, sym, ap, ◌∙◌, append_assoc}
 use Rattle.std.specs.Prelude.{codes, decimal, bytes_eq}
 use Rattle.places.specs.All.{Names, IsAbove, is_above, are_apart}
-use Rattle.places.proofs.Above.{same_rest, apart-sound, is_above-under}
+use Rattle.places.proofs.Above.{same_rest, apart-sound}
 use Rattle.git_objects.specs.All.{hex_of}
 use Rattle.repository.specs.Layout.{dlrepo, repo_of, config_place, settings_place, main_place}
-use Rattle.repository.specs.Layout.{head_place, object_place, tmp_place, in_tmp}
+use Rattle.repository.specs.Layout.{head_place, object_place, tmp_place, is_in, in_tmp}
+use Rattle.repository.proofs.Unfinished.{is_in-under}
 
 -- a file of a dataset, or a temporary one
 pub data Part : Type 0 where
@@ -53,12 +54,12 @@ part_below root Head = (dlrepo, codes "HEAD" ∷ [], refl)
 
 -- whether a part is an unfinished write
 abbrev pub is_unfinished : Part → Bool
-is_unfinished a = is_above (dlrepo ∷ codes "tmp" ∷ []) (names_at a)
+is_unfinished a = is_in (dlrepo ∷ codes "tmp" ∷ []) (names_at a)
 
 in_tmp_is : (root : Names) (a : Part) → in_tmp (repo_of root) (root ++ names_at a) ≡ is_unfinished a
 in_tmp_is root a =
-    ap (λ (z : Names). is_above z (root ++ names_at a)) (append_assoc root (dlrepo ∷ []) (codes "tmp" ∷ []))
-    ∙ is_above-under root (dlrepo ∷ codes "tmp" ∷ []) (names_at a)
+    ap (λ (z : Names). is_in z (root ++ names_at a)) (append_assoc root (dlrepo ∷ []) (codes "tmp" ∷ []))
+    ∙ is_in-under root (dlrepo ∷ codes "tmp" ∷ []) (names_at a)
 
 -- a place is that of a part, which is an unfinished write or isn't
 pub record IsPart (root q : Names) (inside : Bool) : Type 0 where

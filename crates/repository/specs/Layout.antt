@@ -1,7 +1,7 @@
 -- Where the files of a dataset and of its repository stand.
-use Rattle.std.specs.Prelude.{ℕ, Bool, List, [], ◌∷◌, ◌++◌, Option, Some, None, take, drop, codes}
-use Rattle.std.specs.Prelude.{decimal}
-use Rattle.places.specs.All.{Names, pieces, is_above}
+use Rattle.std.specs.Prelude.{ℕ, Bool, true, false, ◌&&◌, List, [], ◌∷◌, ◌++◌, Option, Some, None}
+use Rattle.std.specs.Prelude.{take, drop, codes, decimal, bytes_eq}
+use Rattle.places.specs.All.{Names, pieces}
 use Rattle.git_objects.specs.All.{hex_of}
 
 -- The name of a repository's directory.
@@ -49,7 +49,7 @@ object_names digits = codes "objects" ∷ take 2 digits ∷ drop 2 digits ∷ []
 abbrev pub object_place : Names → List ℕ → Names
 object_place repo id = repo ++ object_names (hex_of id)
 
--- The directory of unfinished writes, of which nothing is said.
+-- The directory in which unfinished writes stand.
 abbrev pub tmp_names : Names
 tmp_names = codes "tmp" ∷ []
 
@@ -57,6 +57,18 @@ tmp_names = codes "tmp" ∷ []
 abbrev pub tmp_place : Names → ℕ → Names
 tmp_place repo i = repo ++ codes "tmp" ∷ decimal i ∷ []
 
--- A place of unfinished writes.
+-- A single name.
+abbrev pub is_single : Names → Bool
+is_single [] = false
+is_single (name ∷ []) = true
+is_single (name ∷ next ∷ rest) = false
+
+-- A place directly in a directory, one name below it.
+abbrev pub is_in : Names → Names → Bool
+is_in [] names = is_single names
+is_in (x ∷ dir) [] = false
+is_in (x ∷ dir) (y ∷ names) = bytes_eq x y && is_in dir names
+
+-- A place of an unfinished write of a repository: directly in its `tmp`.
 abbrev pub in_tmp : Names → Names → Bool
-in_tmp repo place = is_above (repo ++ tmp_names) place
+in_tmp repo place = is_in (repo ++ tmp_names) place

@@ -1,4 +1,5 @@
--- How long the text of a repository's place may be, and how large an object that is read.
+-- How long the text of a repository's place may be, how large an object that is read, and how many
+-- items a dataset may have.
 use Rattle.std.specs.Prelude.{ℕ, length, Option, Some}
 use Rattle.places.specs.All.{Names, text_of}
 use Rattle.faults.specs.declared.faults.Fault.{Fault}
@@ -19,6 +20,11 @@ object_body_limit = 67108864
 -- The most bytes of an object's file that is read: such a body behind its longest header.
 abbrev pub object_file_limit : ℕ
 object_file_limit = 67108880
+
+-- How many leaves and directories a commit's tree may have, and how many items a walk over files
+-- may meet.
+abbrev pub item_limit : ℕ
+item_limit = 100000
 
 -- The refusal of a repository whose place is too long.
 abbrev pub large : Names → Option Fault

@@ -1,16 +1,16 @@
--- The places of unfinished writes, of which nothing is said.
+-- The places of unfinished writes, of which nothing is said: the files directly in a repository's
+-- `tmp`. What lies deeper below it is a place like any other.
 use Rattle.std.specs.Prelude.{◌≡◌, ◌⊎◌, Bool, true, false, ◌&&◌, ◌||◌, None, [], ◌∷◌, bytes_eq}
 use Rattle.std.specs.Prelude.{codes}
 use Rattle.places.specs.All.{Names, Ground, file_at}
-use Rattle.repository.specs.Layout.{in_tmp}
+use Rattle.repository.specs.Layout.{in_tmp, is_single}
 
--- Something below `tmp`.
+-- `tmp` and one name below it.
 abbrev pub is_below_tmp : Names → Bool
 is_below_tmp [] = false
-is_below_tmp (dir ∷ []) = false
-is_below_tmp (dir ∷ name ∷ rest) = bytes_eq dir (codes "tmp")
+is_below_tmp (dir ∷ names) = bytes_eq dir (codes "tmp") && is_single names
 
--- Below the `tmp` of any repository.
+-- The place of an unfinished write of any repository: `.. .dlrepo tmp NAME`.
 unfoldable pub is_tmp : Names → Bool
 is_tmp [] = false
 is_tmp (name ∷ rest) = (bytes_eq name (codes ".dlrepo") && is_below_tmp rest) || is_tmp rest

@@ -1,5 +1,5 @@
 // The places of a dataset and of its repository.
-ghost use Rattle.std.specs.Prelude.{◌≡◌, ◌≤◌, ◌++◌, length, IfOk, IsTrue, string_bytes, codes, take, drop, ◌∷◌};
+ghost use Rattle.std.specs.Prelude.{◌≡◌, ◌≤◌, ◌++◌, length, IfOk, IsTrue, string_bytes, codes, decimal, take, drop, ◌∷◌};
 ghost use Rattle.places.specs.All.{is_path, pieces, text_of};
 ghost use Rattle.git_objects.specs.All.{hex_of};
 ghost use Rattle.repository.specs.Layout.{repo_of, config_place, settings_place, main_place, head_place, object_names};
@@ -88,11 +88,18 @@ pub fn object_place(alloc: Global, repo: &Place, id: &Id) -> Result<Place, Alloc
     repo.below(alloc, path.as_str())
 }
 
+// `tmp/NUMBER`
+fn tmp_path(alloc: Global, number: usize) -> Result<String, AllocError>
+    ensures { IfOk result (λ path. string_bytes path ≡ codes "tmp/" ++ decimal number) }
+{
+    format!(in alloc; "tmp/{number}")
+}
+
 /// The temporary place with this number.
 pub fn tmp_place(alloc: Global, repo: &Place, number: usize) -> Result<Place, AllocError>
     requires { length (text_of repo.now) ≤ object_limit }
     ensures { IfOk result (λ place. place ≡ tmp_place repo.now number) }
 {
-    let path = format!(in alloc; "tmp/{number}")?;
+    let path = tmp_path(alloc, number)?;
     repo.below(alloc, path.as_str())
 }

@@ -11,7 +11,8 @@ pub use layout::{
     settings_place, tmp_place,
 };
 pub use limits::{
-    OBJECT_BODY_LIMIT, OBJECT_FILE_LIMIT, OBJECT_LIMIT, REPO_LIMIT, repo_too_large, too_large,
+    ITEM_LIMIT, OBJECT_BODY_LIMIT, OBJECT_FILE_LIMIT, OBJECT_LIMIT, PLACE_LIMIT, REPO_LIMIT,
+    repo_too_large, too_large,
 };
 
 #[cfg(test)]

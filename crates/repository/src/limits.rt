@@ -1,4 +1,4 @@
-// How long the text of a repository's place may be, and how large an object that is read.
+// How long the texts of places may be, how large an object that is read, and how many items a dataset may have.
 ghost use Rattle.std.specs.Prelude.{◌≡◌, length, string_bytes, IfOk};
 ghost use Rattle.places.specs.All.{text_of};
 ghost use Rattle.faults.specs.declared.faults.Fault.TheVariants.{TooLarge};
@@ -6,6 +6,9 @@ ghost use Rattle.faults.specs.declared.faults.Fault.TheVariants.{TooLarge};
 use faults::Fault;
 use places::{Place, Text};
 use std::alloc::{AllocError, Global};
+
+/// The longest text of a place, in bytes.
+pub const PLACE_LIMIT: usize = 4096;
 
 /// The longest text of a repository's place in which anything is written, in bytes.
 pub const REPO_LIMIT: usize = 3584;
@@ -18,6 +21,9 @@ pub const OBJECT_BODY_LIMIT: usize = 67_108_864;
 
 /// The most bytes of an object's file that is read: such a body behind its longest header.
 pub const OBJECT_FILE_LIMIT: u64 = 67_108_880;
+
+/// How many leaves and directories a commit's tree may have, and how many items a walk over files may meet.
+pub const ITEM_LIMIT: u64 = 100_000;
 
 /// The refusal of a repository whose place has this text, too long to write in.
 pub fn too_large(text: String) -> Fault

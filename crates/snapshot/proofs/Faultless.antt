@@ -8,13 +8,13 @@ use Rattle.git_objects.specs.All.{IsBadAt, is_dir, Object}
 use Rattle.git_objects.specs.declared.entries.TreeEntry.{TreeEntry}
 use Rattle.git_objects.specs.declared.objects.ObjKind.TheVariants.{Tree as TreeKind}
 use Rattle.git_objects.proofs.Parsing.{bad_no_tree}
-use Rattle.repository.specs.All.{held_at}
+use Rattle.repository.specs.All.{held_at, item_limit}
 use Rattle.object_store.specs.All.{get_fault, missing_fault, kind_fault, IsTreeAt, IsTreeFault}
 use Rattle.snapshot.specs.Leaves.{leaf_entry, dir_entry}
 use Rattle.snapshot.specs.Dirs.{Dir, Empty, Item, Sub, entries_of, root_id, inside, EachSub}
 use Rattle.snapshot.specs.Dirs.{AreShort, joined, item_count}
 use Rattle.snapshot.specs.Stands.{SubsStand, Stands}
-use Rattle.snapshot.specs.Flattens.{item_limit, CanReadSubs, Reaches, IsReadFault, here, many, long}
+use Rattle.snapshot.specs.Flattens.{CanReadSubs, Reaches, IsReadFault, here, many, long}
 use Rattle.snapshot.specs.Flattens.{below, IsEntryFault}
 use Rattle.snapshot.proofs.Joins.{item_count-joined}
 use Rattle.snapshot.proofs.Standing.{no_leaf_is_dir, same_dirs, tree_same}

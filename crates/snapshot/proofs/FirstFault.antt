@@ -9,11 +9,11 @@ use Rattle.git_objects.specs.declared.entries.TreeEntry.{TreeEntry}
 use Rattle.git_objects.specs.declared.objects.ObjKind.{ObjKind}
 use Rattle.git_objects.specs.declared.objects.ObjKind.TheVariants.{Tree as TreeKind}
 use Rattle.git_objects.proofs.BadPlaces.{tree_place}
-use Rattle.repository.specs.All.{held_at}
+use Rattle.repository.specs.All.{held_at, item_limit}
 use Rattle.object_store.specs.All.{get_fault, kind_fault, IsTreeAt, IsTreeFault, IsBadTreeHeld}
 use Rattle.snapshot.specs.Dirs.{Dir, entries_of, root_id, inside, item_count, AreShort}
 use Rattle.snapshot.specs.Stands.{SubsStand}
-use Rattle.snapshot.specs.Flattens.{item_limit, too_many, too_long, CanReadSubs, Reaches}
+use Rattle.snapshot.specs.Flattens.{too_many, too_long, CanReadSubs, Reaches}
 use Rattle.snapshot.specs.Flattens.{IsReadFault, here, many, long, below, IsEntryFault}
 use Rattle.snapshot.proofs.Faultless.{cut_at, EachSub-parts, AreShort-back, IsLeft, kind_whole, no_tree, no_entry_fault}
 use Rattle.snapshot.proofs.Joins.{item_count-joined}

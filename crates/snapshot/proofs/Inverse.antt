@@ -2,7 +2,7 @@
 use Rattle.std.proofs.Common.{◌≡◌, ℕ, ◌+◌, ◌≤◌, inl, inr, List, [], ◌∷◌, ◌++◌, length, Some, None, sym, ap, subst, ◌∙◌, arith, length-append}
 use Rattle.places.specs.All.{Names, text_of, slash, Ground}
 use Rattle.git_objects.specs.All.{oid, Fields, IsCommitText, IsBadCommitAt, Object}
-use Rattle.repository.specs.All.{object_limit, held_at}
+use Rattle.repository.specs.All.{object_limit, held_at, item_limit}
 use Rattle.repository.proofs.Holds.{held_is}
 use Rattle.object_store.proofs.Within.{held_read}
 use Rattle.file_store.specs.All.{or_next}
@@ -20,7 +20,7 @@ use Rattle.snapshot.specs.Dirs.{Dir, Empty, Item, Sub, entries_of, root_id, tree
 use Rattle.snapshot.specs.Dirs.{tree_objects, inside, listed, paths_of, item_count, IsDense}
 use Rattle.snapshot.specs.Dirs.{AreShort}
 use Rattle.snapshot.specs.Stands.{Stands}
-use Rattle.snapshot.specs.Flattens.{item_limit, CanReadSubs, IsFlatTree, IsReadFault}
+use Rattle.snapshot.specs.Flattens.{CanReadSubs, IsFlatTree, IsReadFault}
 use Rattle.snapshot.specs.Flattens.{IsFlattenFault, IsFlat}
 use Rattle.snapshot.specs.Laws.{AreHeld, AreSmall, ArePathsShort, FlattenOfBuild, BuildOfFlatten}
 use Rattle.snapshot.specs.Laws.{HasOneEnd}

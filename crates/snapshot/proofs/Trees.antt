@@ -10,12 +10,8 @@ use Rattle.snapshot.specs.Leaves.{leaf_entry, dir_entry}
 use Rattle.snapshot.specs.Dirs.{Dir, Empty, Item, Sub, entries_of, tree_of, inner_objects}
 use Rattle.snapshot.specs.Dirs.{tree_objects, inside, listed, paths_of, IsTreeOf, is_empty, joined}
 use Rattle.std.proofs.Common.{Option, Some, None, Result, Ok, Err, get_or}
-use Rattle.std.specs.Prelude.{MatchOption, MatchResult, IfOk, ◌==◌}
-use Rattle.std.proofs.lemmas.Bool.{false≢true}
-use Rattle.faults.specs.declared.faults.Trouble.{Trouble}
-use Rattle.faults.specs.declared.faults.Trouble.TheVariants.{Refused, Device, NoMemory}
+use Rattle.std.specs.Prelude.{MatchOption, IfOk, ◌==◌}
 use Rattle.snapshot.specs.Order.{IsPathList}
-use Rattle.snapshot.specs.Builds.{BuildFails, BuildRefused}
 use Rattle.snapshot.proofs.Valid.{back_list, tree_of_paths}
 use denote.Ref.{Bor}
 use Rattle.std.specs.List.{position, position_or_len, before_first, after_first}
@@ -246,29 +242,11 @@ pub some_left : (xs : List Rest) → (length xs == 0) ≡ false → 0 < length x
 some_left [] h = absurd (cc h)
 some_left (x ∷ xs) h = omega arith
 
--- ---- where nothing is built
-pub match_map : {A E : Type 0} (r : Result A E) (P Q : A → Type 0) (R S : E → Type 0) → ((x : A) → P x → Q x) → ((e : E) → R e → S e) → MatchResult r P R → MatchResult r Q S
-match_map (Ok x) P Q R S w v h = w x h
-match_map (Err e) P Q R S w v h = v e h
-
-pub fails_within : (list part : List Entry) (e : Trouble) → (IsPathList list → IsPathList part) → BuildFails part e → BuildFails list e
-fails_within list part NoMemory w h = tt
-fails_within list part (Refused f) w h = λ k. h (w k)
-fails_within list part Device w h = h
-
-pub fails_memory : (list : List Entry) (e : Trouble) → e ≡ NoMemory → BuildFails list e
-fails_memory list e h = subst (BuildFails list) (sym h) tt
-
+-- ---- what is left is a list of paths, and a whole directory has a tree
 pub left_list : (list left : List Entry) (entries : List TreeEntry) (objects mid : List NewObject) → BuildsFront list left entries objects mid → IsPathList list → IsPathList left
 left_list list left entries objects mid front h = back_list (paths_of front.dir) left (subst IsPathList front.split h)
 
-pub tree_refused : (list : List Entry) (entries : List TreeEntry) (objects mid : List NewObject) → BuildsFront list [] entries objects mid → is_tree entries ≡ false → IsPathList list → ⊥
-tree_refused list entries objects mid front no_tree h =
+pub has_tree : (list : List Entry) (entries : List TreeEntry) (objects mid : List NewObject) → BuildsFront list [] entries objects mid → IsPathList list → is_tree entries ≡ true
+has_tree list entries objects mid front h =
     let whole = subst IsPathList (front.split ∙ append-nil (paths_of front.dir)) h in
-    false≢true (sym no_tree ∙ ap is_tree front.spelled ∙ tree_of_paths front.dir [] front.dense front.grouped refl whole)
-
--- without a clash nothing is refused
-pub refused_not : (list : List Entry) (e : Trouble) → IsPathList list → BuildFails list e → BuildRefused list e
-refused_not list NoMemory h k = tt
-refused_not list (Refused f) h k = absurd (k h)
-refused_not list Device h k = absurd k
+    ap is_tree front.spelled ∙ tree_of_paths front.dir [] front.dense front.grouped refl whole

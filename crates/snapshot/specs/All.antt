@@ -1,6 +1,6 @@
 -- The words of this crate, for those above.
-pub use Rattle.snapshot.specs.Builds.{AreGrouped, BuildFails, BuildRefused, BuildsDir, BuildsFront}
-pub use Rattle.snapshot.specs.Builds.{BuildsNext, IsGroup, IsMade, IsSingle, LeavesDir, PutsTree}
+pub use Rattle.snapshot.specs.Builds.{AreGrouped, BuildRefused, BuildsDir, BuildsFront, BuildsNext}
+pub use Rattle.snapshot.specs.Builds.{IsGroup, IsMade, IsSingle, LeavesDir, PutsTree}
 pub use Rattle.snapshot.specs.Builds.{all_below, all_seen, below, seen, tree_object, weight}
 pub use Rattle.snapshot.specs.Dirs.{AreShort, Dir, EachSub, Empty, IsDense, IsDir, IsTreeOf, Item}
 pub use Rattle.snapshot.specs.Dirs.{Sub, entries_of, inner_objects, inside, is_empty, item_count}
@@ -8,7 +8,7 @@ pub use Rattle.snapshot.specs.Dirs.{joined, leaf_in, listed, paths_of, root_id, 
 pub use Rattle.snapshot.specs.Dirs.{tree_of}
 pub use Rattle.snapshot.specs.Flattens.{AreRead, CanReadSubs, GoesOn, IsEntryFault, IsFlat}
 pub use Rattle.snapshot.specs.Flattens.{IsFlatTree, IsFlattenFault, IsListed, IsReadFault, Reaches}
-pub use Rattle.snapshot.specs.Flattens.{here, item_limit, long, many, told_path, too_long, too_many}
+pub use Rattle.snapshot.specs.Flattens.{here, long, many, told_path, too_long, too_many}
 pub use Rattle.snapshot.specs.Flattens.{without_slash}
 pub use Rattle.snapshot.specs.Laws.{AreHeld, ArePathLists, ArePathsShort, AreSmall, BuildOfFlatten}
 pub use Rattle.snapshot.specs.Laws.{FlattenOfBuild, HasEntry, HasNoEmpty, HasOneEnd, IsBuilt}
@@ -18,5 +18,5 @@ pub use Rattle.snapshot.specs.Order.{Below, Each, Has, HasBelow, HasLeaf, HasNoC
 pub use Rattle.snapshot.specs.Order.{IsLeastClash, IsOrdered, IsPathList, IsSorted, IsValidPath}
 pub use Rattle.snapshot.specs.Order.{LacksPath, down, is_entry_name, name}
 pub use Rattle.snapshot.specs.Stands.{Stands, SubsStand}
-pub use Rattle.snapshot.specs.Walks.{DirReads, EntryReads, IsOverLimit, MayFlatten, MayWalk, Spells}
-pub use Rattle.snapshot.specs.Walks.{SpellsTree}
+pub use Rattle.snapshot.specs.Walks.{IsFront, IsLongPath, IsOverLimit, MayFlatten, MayWalk, Spells}
+pub use Rattle.snapshot.specs.Walks.{SpellsTree, at_root, in_dir}

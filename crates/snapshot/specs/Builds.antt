@@ -12,7 +12,7 @@ use Rattle.git_objects.specs.declared.objects.ObjKind.TheVariants.{Tree as TreeK
 use Rattle.object_store.specs.declared.objects.NewObject.{NewObject}
 use Rattle.snapshot.specs.Dirs.{Dir, Empty, Item, Sub, entries_of, root_id, inner_objects}
 use Rattle.snapshot.specs.Dirs.{tree_objects, paths_of, IsTreeOf, EachSub, IsDense}
-use Rattle.snapshot.specs.Order.{IsPathList, IsLeastClash}
+use Rattle.snapshot.specs.Order.{IsLeastClash}
 use Rattle.snapshot.specs.declared.entries.Entry.{Entry}
 use Rattle.snapshot.specs.declared.building.Rest.{Rest}
 
@@ -110,13 +110,6 @@ pub record PutsTree (entries : List TreeEntry) (id : List ℕ) (objects stored :
   pub valid : is_tree entries ≡ true
   pub root : id ≡ oid TreeKind (tree_text entries)
   pub put : stored ≡ objects ++ tree_object entries ∷ []
-
--- Nothing was built: for want of memory, or the list isn't one of paths of which none is above
--- another.
-abbrev pub BuildFails : List Entry → Trouble → Type 0
-BuildFails list NoMemory = Unit {0}
-BuildFails list (Refused fault) = IsPathList list → ⊥
-BuildFails list Device = ⊥
 
 -- A build is refused exactly for the least clash.
 abbrev pub BuildRefused : List Entry → Trouble → Type 0

@@ -6,15 +6,13 @@ use Rattle.faults.specs.declared.faults.Fault.{Fault}
 use Rattle.faults.specs.declared.faults.Fault.TheVariants.{TooLarge}
 use Rattle.git_objects.specs.All.{Fields, is_dir}
 use Rattle.git_objects.specs.declared.entries.TreeEntry.{TreeEntry}
+use Rattle.repository.specs.All.{item_limit}
 use Rattle.object_store.specs.All.{get_fault, IsTreeAt, IsTreeFault, IsCommitAt, IsCommitFault}
 use Rattle.snapshot.specs.Dirs.{Dir, entries_of, root_id, inside, listed, paths_of, item_count}
 use Rattle.snapshot.specs.Dirs.{EachSub, AreShort}
 use Rattle.snapshot.specs.Stands.{Stands, SubsStand}
 use Rattle.snapshot.specs.declared.entries.Entry.{Entry}
-
--- How many leaves and directories the tree of a snapshot may have.
-abbrev pub item_limit : ℕ
-item_limit = 100000
+use Rattle.snapshot.specs.declared.flattening.Found.{Found}
 
 -- A text without a slash at its end.
 abbrev pub without_slash : List ℕ → List ℕ
@@ -85,24 +83,25 @@ IsEntryFault repo count path e g fault =
     ⊎ ((count < item_limit) × (length (path ++ e.name) ≤ longest) × (is_dir e.mode ≡ true)
     × IsReadFault repo g (count + 1) (inside path e.name) e.id.0 fault))
 
--- The list went on with the paths of some entries, and the count with their items.
-pub record GoesOn (repo : Names) (path : List ℕ) (entries : List TreeEntry) (old new : List Entry)
-    (before after : ℕ) (g : Ground) : Type 0 where
+-- Some entries of the directory at a path were read: their paths were found, and their items
+-- counted.
+pub record GoesOn (repo : Names) (path : List ℕ) (entries : List TreeEntry) (old new : Found)
+    (g : Ground) : Type 0 where
   pub dir : Dir
   pub read : AreRead repo path g entries dir
-  pub more : new ≡ old ++ listed path dir
-  pub counted : after ≡ before + item_count dir
+  pub more : new.entries.items ≡ old.entries.items ++ listed path dir
+  pub counted : new.count ≡ old.count + item_count dir
 
--- The list went on with the paths of the directory that is held under an id.
-pub record IsListed (repo : Names) (path id : List ℕ) (old new : List Entry) (before after : ℕ)
-    (g : Ground) : Type 0 where
+-- The directory at a path was read, which is held under an id: its paths were found, and its items
+-- counted.
+pub record IsListed (repo : Names) (path id : List ℕ) (old new : Found) (g : Ground) : Type 0 where
   pub dir : Dir
   pub stands : Stands repo id g dir
   pub top : get_fault repo id g ≡ None
   pub whole : CanReadSubs repo g dir
   pub short : AreShort path dir
-  pub more : new ≡ old ++ listed path dir
-  pub counted : after ≡ before + item_count dir
+  pub more : new.entries.items ≡ old.entries.items ++ listed path dir
+  pub counted : new.count ≡ old.count + item_count dir
 
 -- The paths of the tree with this id: it and the trees in it are read, none of its paths is too
 -- long, and they aren't too many.

@@ -4,14 +4,14 @@ use Rattle.places.specs.All.{Names, text_of, longest, Ground}
 use Rattle.faults.specs.declared.faults.Fault.{Fault}
 use Rattle.git_objects.specs.All.{Fields, oid}
 use Rattle.git_objects.specs.declared.entries.TreeEntry.{TreeEntry}
-use Rattle.repository.specs.All.{IsHeld, object_limit, object_body_limit}
+use Rattle.repository.specs.All.{IsHeld, object_limit, object_body_limit, item_limit}
 use Rattle.object_store.specs.All.{IsTreeAt, IsCommitAt}
 use Rattle.object_store.specs.declared.objects.NewObject.{NewObject}
 use Rattle.snapshot.specs.Leaves.{leaf_entry, dir_entry}
 use Rattle.snapshot.specs.Dirs.{Dir, root_id, tree_objects, paths_of, leaf_in, IsDir, IsDense}
 use Rattle.snapshot.specs.Stands.{Stands}
 use Rattle.snapshot.specs.Order.{IsPathList}
-use Rattle.snapshot.specs.Flattens.{item_limit, IsFlat, IsFlattenFault}
+use Rattle.snapshot.specs.Flattens.{IsFlat, IsFlattenFault}
 use Rattle.snapshot.specs.declared.entries.Leaf.{Leaf}
 use Rattle.snapshot.specs.declared.entries.Entry.{Entry}
 

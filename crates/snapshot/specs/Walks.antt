@@ -1,21 +1,38 @@
--- How the calls end that read a tree, and what they leave whatever the files tell.
-use Rattle.std.specs.Prelude.{◌≡◌, ◌⊎◌, ℕ, ◌+◌, ◌<◌, ◌≤◌, Bool, List, ◌∷◌, [], ◌++◌, codes, Result}
+-- How far a reading of trees goes, and what may come of it, whatever the files tell.
+use Rattle.std.specs.Prelude.{◌≡◌, ◌⊎◌, ℕ, ◌+◌, ◌<◌, ◌≤◌, List, [], ◌++◌, codes, length}
 use Rattle.places.specs.All.{Names, longest}
-use Rattle.file_store.specs.All.{Drive}
 use Rattle.faults.specs.declared.faults.Fault.{Fault}
-use Rattle.faults.specs.declared.faults.Trouble.{Trouble}
 use Rattle.faults.specs.declared.faults.Fault.TheVariants.{TooLarge}
 use Rattle.git_objects.specs.declared.entries.TreeEntry.{TreeEntry}
-use Rattle.acts.specs.All.{Reads}
 use Rattle.object_store.specs.All.{MayReadTree, MayReadCommit}
-use Rattle.snapshot.specs.Dirs.{Dir, entries_of, root_id, listed, EachSub, IsTreeOf}
-use Rattle.snapshot.specs.Flattens.{item_limit, GoesOn, IsListed, IsEntryFault, IsReadFault}
-use Rattle.snapshot.specs.declared.entries.Entry.{Entry}
+use Rattle.repository.specs.All.{item_limit}
+use Rattle.snapshot.specs.Dirs.{Dir, entries_of, root_id, inside, listed, EachSub, IsTreeOf}
+use Rattle.snapshot.specs.Flattens.{told_path}
+use Rattle.snapshot.specs.Order.{IsEntryName}
+use Rattle.snapshot.specs.declared.flattening.Found.{Found}
+
+-- What the paths in a directory begin with: nothing for the root, and else each name that leads to
+-- it, with a slash behind it.
+pub data IsFront : List ℕ → Type 0 where
+  at_root : IsFront []
+  in_dir : (path name : List ℕ) → IsFront path → IsEntryName name → IsFront (inside path name)
+
+-- A path in a directory is too long, though the directory's isn't: it is told by the directory's
+-- path, with its length.
+pub record IsLongPath (told : List ℕ) (size : ℕ) : Type 0 where
+  pub path : List ℕ
+  pub name : List ℕ
+  pub front : IsFront path
+  pub named : IsEntryName name
+  pub fits : length path ≤ longest + 1
+  pub is : told ≡ told_path path
+  pub counted : size ≡ length (path ++ name)
+  pub over : longest < size
 
 -- A path is too long, or the leaves and directories are too many.
 abbrev pub IsOverLimit : Fault → Type 0
 IsOverLimit (TooLarge path size) =
-    (longest < size) ⊎ ((path ≡ codes ".") × (size ≡ item_limit + 1))
+    IsLongPath path size ⊎ ((path ≡ codes ".") × (size ≡ item_limit + 1))
 IsOverLimit fault = ⊥
 
 -- The faults with which a tree and those in it may be refused, whatever the files tell.
@@ -26,35 +43,20 @@ MayWalk repo fault = ((id : List ℕ) × MayReadTree repo id fault) ⊎ IsOverLi
 abbrev pub MayFlatten : Names → List ℕ → Fault → Type 0
 MayFlatten repo commit fault = MayReadCommit repo commit fault ⊎ MayWalk repo fault
 
--- How the reading of an entry of the directory at a path ends.
-abbrev pub EntryReads : Bool → Names → List ℕ → TreeEntry → List Entry → List Entry → ℕ → ℕ → Drive
-    → Drive → Result (Unit {0}) Trouble → Type 0
-EntryReads tells repo path e list after n m old new result =
-    Reads (λ fault. MayWalk repo fault) tells (λ g _. GoesOn repo path (e ∷ []) list after n m g)
-    (λ g fault. IsEntryFault repo n path e g fault) old new result
-
--- How the reading of the directory at a path ends, whose tree has an id.
-abbrev pub DirReads : Bool → Names → List ℕ → List ℕ → List Entry → List Entry → ℕ → ℕ → Drive
-    → Drive → Result (Unit {0}) Trouble → Type 0
-DirReads tells repo path id list after n m old new result =
-    Reads (λ fault. MayWalk repo fault) tells (λ g _. IsListed repo path id list after n m g)
-    (λ g fault. IsReadFault repo g n path id fault) old new result
-
--- The list went on with the paths of some entries of a tree, each directory among them with a tree
--- of its own; and the count with their items, and not past the limit.
-pub record Spells (path : List ℕ) (entries : List TreeEntry) (old new : List Entry) (after : ℕ)
-    : Type 0 where
+-- The paths of some entries of a tree were found, each directory among them with a tree of its own;
+-- and no more leaves and directories than may be.
+pub record Spells (path : List ℕ) (entries : List TreeEntry) (old new : Found) : Type 0 where
   pub dir : Dir
   pub spelled : entries_of dir ≡ entries
   pub subs : EachSub IsTreeOf dir
-  pub more : new ≡ old ++ listed path dir
-  pub few : after ≤ item_limit
+  pub more : new.entries.items ≡ old.entries.items ++ listed path dir
+  pub few : new.count ≤ item_limit
 
--- The list went on with the paths of a directory whose tree has this id.
-pub record SpellsTree (path id : List ℕ) (old new : List Entry) (after : ℕ) : Type 0 where
+-- The paths of a directory were found, whose tree has this id.
+pub record SpellsTree (path id : List ℕ) (old new : Found) : Type 0 where
   pub dir : Dir
   pub top : IsTreeOf dir
   pub root : root_id dir ≡ id
   pub subs : EachSub IsTreeOf dir
-  pub more : new ≡ old ++ listed path dir
-  pub few : after ≤ item_limit
+  pub more : new.entries.items ≡ old.entries.items ++ listed path dir
+  pub few : new.count ≤ item_limit

@@ -2,11 +2,10 @@
 ghost use Rattle.std.specs.Prelude.{◌≡◌, ◌≤◌, ◌<◌, List, ℕ, true, [], ◌∷◌, ◌++◌, length, map, IfOk, MatchOption};
 ghost use Rattle.std.specs.Prelude.{MatchResult};
 ghost use Rattle.places.specs.All.{slash};
-ghost use Rattle.faults.specs.declared.faults.Trouble.TheVariants.{NoMemory};
 ghost use Rattle.snapshot.specs.Laws.{IsBuilt};
-ghost use Rattle.snapshot.specs.Builds.{seen, all_seen, IsSingle, IsGroup, BuildsNext, BuildsDir, BuildFails};
-ghost use Rattle.snapshot.specs.Builds.{BuildRefused, PutsTree};
-ghost use Rattle.snapshot.specs.Order.{Each, IsSorted, IsValidPath};
+ghost use Rattle.snapshot.specs.Builds.{seen, all_seen, IsSingle, IsGroup, BuildsNext, BuildsDir, BuildRefused};
+ghost use Rattle.snapshot.specs.Builds.{PutsTree};
+ghost use Rattle.snapshot.specs.Order.{Each, IsPathList, IsSorted, IsValidPath};
 
 use crate::clashes::least_clash;
 use crate::entries::{Entry, Leaf};
@@ -14,7 +13,7 @@ use crate::ordering::cut_dir;
 use crate::snapshots::Snapshot;
 use faults::{Fault, Trouble};
 use file_store::{Bytes, Text};
-use git_objects::{Id, Mode, ObjKind, Tree, TreeEntry, are_entries, object_id};
+use git_objects::{Id, Mode, ObjErr, ObjKind, Tree, TreeEntry, object_id};
 use object_store::NewObject;
 use std::alloc::{AllocError, Global};
 
@@ -74,10 +73,11 @@ fn build_next(
     rests: &[Rest],
     entries: &mut Vec<TreeEntry>,
     objects: &mut Vec<NewObject>,
-) -> Result<usize, Trouble>
-    requires { 0 < length rests.now }
-    ensures { MatchResult result (λ taken. BuildsNext (all_seen rests.now) taken
-        entries.old.items entries.new.items objects.old.items objects.new.items) (BuildFails (all_seen rests.now)) }
+) -> Result<usize, AllocError>
+    requires some { 0 < length rests.now }
+    requires paths { IsPathList (all_seen rests.now) }
+    ensures { IfOk result (λ taken. BuildsNext (all_seen rests.now) taken
+        entries.old.items entries.new.items objects.old.items objects.new.items) }
 {
     let Rest { path, leaf } = rests[0];
     match first_dir(path) {
@@ -102,9 +102,9 @@ fn build_next(
 
 // Builds a directory from what is left of its paths, and the trees in it before its own.
 #[cycle(building)]
-fn build_dir(alloc: Global, rests: &[Rest], objects: &mut Vec<NewObject>) -> Result<Id, Trouble>
-    ensures { MatchResult result (λ id. BuildsDir (all_seen rests.now) id.0 objects.old.items objects.new.items)
-        (BuildFails (all_seen rests.now)) }
+fn build_dir(alloc: Global, rests: &[Rest], objects: &mut Vec<NewObject>) -> Result<Id, AllocError>
+    requires { IsPathList (all_seen rests.now) }
+    ensures { IfOk result (λ id. BuildsDir (all_seen rests.now) id.0 objects.old.items objects.new.items) }
 {
     let mut entries: Vec<TreeEntry> = Vec::new(alloc);
     let mut left = rests;
@@ -112,21 +112,17 @@ fn build_dir(alloc: Global, rests: &[Rest], objects: &mut Vec<NewObject>) -> Res
         let taken = build_next(alloc, left, &mut entries, objects)?;
         left = &left[taken..];
     }
-    if !are_entries(entries.as_slice()) {
-        let path = Text::new(String::new(alloc));
-        return Err(Trouble::Refused(Fault::PathClash { path }));
-    }
     put_tree(alloc, Tree { entries }, objects)
 }
 
 // Adds the object of a tree.
-fn put_tree(alloc: Global, tree: Tree, objects: &mut Vec<NewObject>) -> Result<Id, Trouble>
-    ensures { MatchResult result (λ id. PutsTree tree.entries.items id.0 objects.old.items objects.new.items)
-        (λ e. e ≡ NoMemory) }
+fn put_tree(alloc: Global, tree: Tree, objects: &mut Vec<NewObject>) -> Result<Id, AllocError>
+    ensures { IfOk result (λ id. PutsTree tree.entries.items id.0 objects.old.items objects.new.items) }
 {
     let body = match tree.encode(alloc) {
         Ok(body) => body,
-        Err(_) => return Err(Trouble::NoMemory),
+        Err(ObjErr::NoMemory) => return Err(AllocError),
+        Err(_) => unreachable!(),
     };
     let id = object_id(ObjKind::Tree, body.as_slice());
     objects.push(NewObject {

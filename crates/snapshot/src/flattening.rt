@@ -3,8 +3,11 @@ ghost use Rattle.std.specs.Prelude.{◌≡◌, ◌≤◌, ◌+◌, ◌++◌, [],
 ghost use Rattle.places.specs.All.{slash, longest};
 ghost use Rattle.acts.specs.All.{Reads};
 ghost use Rattle.faults.specs.declared.faults.Fault.TheVariants.{TooLarge};
-ghost use Rattle.snapshot.specs.Flattens.{item_limit, told_path, too_many, IsFlat, IsFlattenFault};
-ghost use Rattle.snapshot.specs.Walks.{MayFlatten, EntryReads, DirReads, Spells, SpellsTree};
+ghost use Rattle.repository.specs.All.{item_limit};
+ghost use Rattle.snapshot.specs.Flattens.{told_path, too_many, GoesOn, IsListed, IsEntryFault};
+ghost use Rattle.snapshot.specs.Flattens.{IsReadFault, IsFlat, IsFlattenFault};
+ghost use Rattle.snapshot.specs.Order.{IsEntryName};
+ghost use Rattle.snapshot.specs.Walks.{IsFront, MayWalk, MayFlatten, Spells, SpellsTree};
 
 use crate::entries::{Entry, Leaf};
 use crate::snapshots::Snapshot;
@@ -12,13 +15,18 @@ use faults::{Fault, Trouble};
 use file_store::{Files, Place, Text};
 use git_objects::{Id, TreeEntry};
 use object_store::{read_commit, read_tree};
+use repository::ITEM_LIMIT;
 use std::alloc::{AllocError, Global};
 
 /// The longest path of a snapshot, in bytes.
 const LONGEST: usize = 4096;
 
-/// How many leaves and directories the tree of a snapshot may have.
-const ITEM_LIMIT: usize = 100_000;
+/// What a reading has found so far: the paths, and how many leaves and directories there are.
+#[derive(Drop)]
+struct Found {
+    entries: Vec<Entry>,
+    count: u64,
+}
 
 // What stands before a slash at the end.
 fn before_slash(path: &str) -> Option<&str>
@@ -54,29 +62,32 @@ fn too_long(alloc: Global, path: &str, size: usize) -> Result<Fault, AllocError>
 fn too_many(alloc: Global) -> Result<Fault, AllocError>
     ensures { IfOk result (λ fault. fault ≡ too_many) }
 {
-    let size = ITEM_LIMIT as u64 + 1;
+    let size = ITEM_LIMIT + 1;
     let path = Text::new(String::from_str(alloc, ".")?);
     Ok(Fault::TooLarge { path, size })
 }
 
-// Adds the paths of one entry of the directory at a path.
+// Adds the paths of one entry of the directory whose paths begin so.
 #[cycle(flattening)]
 fn add_entry<F: Files>(
     alloc: Global,
     files: &mut F,
     repo: &Place,
-    entry: &TreeEntry,
     path: &str,
-    list: &mut Vec<Entry>,
-    count: &mut usize,
+    entry: &TreeEntry,
+    found: &mut Found,
 ) -> Result<(), Trouble>
+    requires front { IsFront path.now }
     requires path { length path.now ≤ longest + 1 }
-    requires few { count.old ≤ item_limit }
-    ensures reads { EntryReads F.tells repo.now path.now entry.now list.old.items list.new.items count.old count.new
+    requires named { IsEntryName entry.now.name }
+    requires few { found.old.count ≤ item_limit }
+    ensures reads { Reads (λ fault. MayWalk repo.now fault) F.tells
+        (λ g _. GoesOn repo.now path.now (entry.now ∷ []) found.old found.new g)
+        (λ g fault. IsEntryFault repo.now found.old.count path.now entry.now g fault)
         (F.drive files.old) (F.drive files.new) result }
-    ensures spells { OnOk result (Spells path.now (entry.now ∷ []) list.old.items list.new.items count.new) }
+    ensures spells { OnOk result (Spells path.now (entry.now ∷ []) found.old found.new) }
 {
-    if *count >= ITEM_LIMIT {
+    if found.count >= ITEM_LIMIT {
         return Err(Trouble::Refused(too_many(alloc)?));
     }
     let mut full = String::from_str(alloc, path)?;
@@ -84,40 +95,42 @@ fn add_entry<F: Files>(
     if full.len() > LONGEST {
         return Err(Trouble::Refused(too_long(alloc, path, full.len())?));
     }
-    *count += 1;
+    found.count += 1;
     match Leaf::of_mode(entry.mode, entry.id) {
         Some(leaf) => {
             let path = Text::new(full);
-            list.push(Entry { path, leaf })?;
+            found.entries.push(Entry { path, leaf })?;
             Ok(())
         }
         None => {
             full.push_str("/")?;
-            add_tree(alloc, files, repo, &entry.id, full.as_str(), list, count)
+            add_tree(alloc, files, repo, full.as_str(), &entry.id, found)
         }
     }
 }
 
-// Adds the paths of the directory at a path, whose tree has this id.
+// Adds the paths of the directory whose tree has this id, and whose paths begin so.
 #[cycle(flattening)]
 fn add_tree<F: Files>(
     alloc: Global,
     files: &mut F,
     repo: &Place,
-    id: &Id,
     path: &str,
-    list: &mut Vec<Entry>,
-    count: &mut usize,
+    id: &Id,
+    found: &mut Found,
 ) -> Result<(), Trouble>
+    requires front { IsFront path.now }
     requires path { length path.now ≤ longest + 1 }
-    requires few { count.old ≤ item_limit }
-    ensures reads { DirReads F.tells repo.now path.now id.now.0 list.old.items list.new.items count.old count.new
+    requires few { found.old.count ≤ item_limit }
+    ensures reads { Reads (λ fault. MayWalk repo.now fault) F.tells
+        (λ g _. IsListed repo.now path.now id.now.0 found.old found.new g)
+        (λ g fault. IsReadFault repo.now g found.old.count path.now id.now.0 fault)
         (F.drive files.old) (F.drive files.new) result }
-    ensures spells { OnOk result (SpellsTree path.now id.now.0 list.old.items list.new.items count.new) }
+    ensures spells { OnOk result (SpellsTree path.now id.now.0 found.old found.new) }
 {
     let tree = read_tree(alloc, files, repo, id)?;
     for entry in &tree.entries {
-        add_entry(alloc, files, repo, entry, path, list, count)?;
+        add_entry(alloc, files, repo, path, entry, found)?;
     }
     Ok(())
 }
@@ -136,8 +149,10 @@ pub fn flatten<F: Files>(
         (λ g fault. IsFlattenFault repo.now commit.now.0 g fault) (F.drive files.old) (F.drive files.new) result }
 {
     let commit = read_commit(alloc, files, repo, commit)?;
-    let mut list = Vec::new(alloc);
-    let mut count = 0;
-    add_tree(alloc, files, repo, &commit.tree, "", &mut list, &mut count)?;
-    Ok(Snapshot::of_ordered(list))
+    let mut found = Found {
+        entries: Vec::new(alloc),
+        count: 0,
+    };
+    add_tree(alloc, files, repo, "", &commit.tree, &mut found)?;
+    Ok(Snapshot::of_ordered(found.entries))
 }

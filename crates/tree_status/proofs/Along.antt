@@ -5,7 +5,8 @@ use Rattle.places.specs.All.{Names, is_text, joined}
 use Rattle.file_store.specs.All.{or_next}
 use Rattle.faults.specs.declared.faults.Fault.{Fault}
 use Rattle.faults.specs.declared.faults.Fault.TheVariants.{TooLarge, Dirty}
-use Rattle.tree_status.specs.Working.{ItemKind, Directory, Nested, Working, item_limit}
+use Rattle.repository.specs.All.{item_limit}
+use Rattle.tree_status.specs.Working.{ItemKind, Directory, Nested, Working}
 use Rattle.tree_status.specs.Working.{git_file_limit}
 use Rattle.tree_status.specs.Working.{item_fault, kind_fault, directory_of, fault_along}
 use Rattle.tree_status.specs.Working.{files_among}

@@ -30,11 +30,11 @@ works_at : (d : Names) (n : List ℕ) (ns : Names) → list_all is_working (d ++
 works_at [] n ns h = (and_both (is_working n) (list_all is_working ns) h).0
 works_at (m ∷ d) n ns h = works_at d n ns (and_both (is_working m) (list_all is_working (d ++ n ∷ ns)) h).1
 
-works_more : (d : Names) (n : List ℕ) → list_all is_working d ≡ true → is_working n ≡ true → list_all is_working (d ++ n ∷ []) ≡ true
+pub works_more : (d : Names) (n : List ℕ) → list_all is_working d ≡ true → is_working n ≡ true → list_all is_working (d ++ n ∷ []) ≡ true
 works_more [] n h k = λ i. k i && true
 works_more (m ∷ d) n h k = let p = and_both (is_working m) (list_all is_working d) h in λ i. p.0 i && works_more d n p.1 k i
 
-works_of : (n : List ℕ) → is_item_name n ≡ true → is_own n ≡ false → is_working n ≡ true
+pub works_of : (n : List ℕ) → is_item_name n ≡ true → is_own n ≡ false → is_working n ≡ true
 works_of n item own = λ i. item i && not (own i)
 
 not_absent : (file below : Bool) → (file || below) ≡ true → cond file File (cond below Dir Absent) ≡ Absent → ⊥

@@ -7,6 +7,7 @@ pub mod Parts
 pub mod Paths
 pub mod Sorted
 pub mod Steps
+pub mod TaskPaths
 pub mod Tasks
 pub mod Visits
 pub mod WorkingFiles

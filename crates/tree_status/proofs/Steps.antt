@@ -15,14 +15,15 @@ use Rattle.faults.specs.declared.faults.Fault.{Fault}
 use Rattle.faults.specs.declared.faults.Fault.TheVariants.{OddKind, TooLarge, Dirty}
 use Rattle.tree_status.specs.Working.{is_working, items, item_at, fault_along, walk_fault}
 use Rattle.tree_status.specs.Working.{files_among}
-use Rattle.tree_status.specs.Tasks.{ArePlanned}
+use Rattle.tree_status.specs.Tasks.{ArePlanned, IsTask}
 use Rattle.tree_status.specs.Walks.{one_of, front_of, IsFront, IsAt, is_within, within, is_front}
 use Rattle.tree_status.specs.Walks.{part, IsPlanned, IsPlannedBy, Went, MayMeet, MayWalk}
 use Rattle.tree_status.specs.Walks.{AreWorking, as_file}
 use Rattle.tree_status.specs.declared.found.Found.{Found}
-use Rattle.tree_status.proofs.Paths.{AreWhole, working_whole, front_path, joined_whole, last_of_more, place_left, text_short, names_of_nothing, item_facts}
+use Rattle.tree_status.proofs.Paths.{AreWhole, working_whole, front_path, joined_whole, last_of_more, place_left, text_short, names_of_nothing}
 use Rattle.tree_status.proofs.Sorted.{filter_none, filter_all}
-use Rattle.tree_status.proofs.Tasks.{TaskFacts, ending, same_front}
+use Rattle.tree_status.proofs.Tasks.{TaskFacts, same_front}
+use Rattle.tree_status.proofs.TaskPaths.{task_of}
 use Rattle.tree_status.proofs.Fronts.{front_ends, no_front}
 use Rattle.tree_status.proofs.Items.{IsFound, each_item, pieces_of}
 use Rattle.tree_status.proofs.Parts.{part_own, part_inside, parts, each_facts}
@@ -127,12 +128,9 @@ each_at : {A : Type 0} (P : A → Type 0) (xs : List A) (x : A) (ys : List A) �
 each_at P [] x ys h = h.0
 each_at P (z ∷ xs) x ys h = each_at P xs x ys h.1
 
-pub task_filled : (all tasks xs ys : List Item) (x : Item) → list_all is_item_name (names_in all) ≡ true → ArePlanned all tasks → tasks ≡ xs ++ x ∷ ys → 0 < length x.name
-task_filled all tasks xs ys x named planned split =
-    let t = each_at (λ task. TaskFacts task.name) xs x ys (subst (λ l. AllByRecursion (λ task. TaskFacts task.name) l) split (each_facts all tasks named planned)) in
-    let filled = (item_facts t.name t.item).filled in
-    let size : 0 < length t.name = grind (arith, filled) in
-    omega (arith, size, ap length t.is, length-append t.name (ending t.inside))
+pub task_is : (all tasks xs ys : List Item) (x : Item) → list_all is_item_name (names_in all) ≡ true → ArePlanned all tasks → tasks ≡ xs ++ x ∷ ys → IsTask x.name
+task_is all tasks xs ys x named planned split =
+    task_of x.name (each_at (λ task. TaskFacts task.name) xs x ys (subst (λ l. AllByRecursion (λ task. TaskFacts task.name) l) split (each_facts all tasks named planned)))
 
 module _ (root : Names) (g : Ground) (place : Names) (front : List ℕ) (all tasks : List Item) (l : Listed root g place front all tasks) where
   planned_at : (xs : List Item) (x : Item) (ys : List Item) → tasks ≡ xs ++ x ∷ ys → IsPlanned root g (front ++ x.name) x.kind
@@ -155,9 +153,12 @@ module _ (root : Names) (g : Ground) (place : Names) (front : List ℕ) (all tas
   all_went old new went = subst (λ l. Went root l old new) (parts_are root g place front all tasks l) went
 
 -- FROM THE ROOT
+pub front_nothing : IsFront []
+front_nothing = (sym (ap front_of names_of_nothing), ap (list_all is_working) names_of_nothing)
+
 at_root : (root : Names) → is_text (text_of root) ≡ true → IsAt root root []
 at_root root text = (
-  (sym (ap front_of names_of_nothing), ap (list_all is_working) names_of_nothing),
+  front_nothing,
   sym (ap (λ (z : Names). root ++ z) names_of_nothing ∙ append-nil root),
   text,
 )

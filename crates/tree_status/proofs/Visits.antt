@@ -3,14 +3,14 @@ use Rattle.std.proofs.Common.{◌≡◌, ◌⊎◌, ◌+◌, ℕ, Bool, true, fa
 use Rattle.std.specs.Prelude.{is_some, nat_le, codes, length}
 use Rattle.places.specs.All.{Names, is_text, joined, names_of, Ground, file_at, stands}
 use Rattle.places.specs.All.{stands_below}
-use Rattle.repository.specs.All.{dlrepo, head_place}
+use Rattle.repository.specs.All.{dlrepo, head_place, item_limit}
 use Rattle.file_store.specs.All.{or_next, kind_at}
 use Rattle.file_store.specs.declared.kinds.Kind.{Kind}
 use Rattle.file_store.specs.declared.kinds.Kind.TheVariants.{Absent, File, Dir, Other}
 use Rattle.faults.specs.declared.faults.Fault.{Fault}
 use Rattle.faults.specs.declared.faults.Fault.TheVariants.{OddKind, TooLarge, Dirty}
 use Rattle.tree_status.specs.Working.{ItemKind, Working, is_nested, directory_kind, item_of}
-use Rattle.tree_status.specs.Working.{item_at, item_limit, kind_fault, item_fault, fault_along}
+use Rattle.tree_status.specs.Working.{item_at, kind_fault, item_fault, fault_along}
 use Rattle.tree_status.specs.Working.{directory_of, files_among}
 use Rattle.tree_status.specs.Walks.{Went, one_of, Takes, RefusesItem, AddsFile, file_fault, MayFile}
 use Rattle.tree_status.specs.Walks.{MayNest, MayTake, MayMeet, HasPlace, as_file}

@@ -1,6 +1,6 @@
 -- The tasks of a walk in one directory.
-use Rattle.std.specs.Prelude.{◌≡◌, ℕ, Bool, true, false, ◌&&◌, if◌then◌else◌, List, [], ◌∷◌, ◌++◌}
-use Rattle.std.specs.Prelude.{fold, Option, Some, None, bytes_eq}
+use Rattle.std.specs.Prelude.{◌≡◌, ◌⊎◌, ℕ, Bool, true, false, ◌&&◌, if◌then◌else◌, List, [], ◌∷◌}
+use Rattle.std.specs.Prelude.{◌++◌, fold, Option, Some, None, bytes_eq}
 use Rattle.std.specs.List.Sorted.{IsStrictlySortedBy}
 use Rattle.std.specs.Ordering.{nat_cmp}
 use Rattle.std.specs.Cmp.Lexicographic.{slice_cmp}
@@ -9,7 +9,7 @@ use Rattle.file_store.specs.All.{names_in}
 use Rattle.file_store.specs.declared.kinds.Kind.{Kind}
 use Rattle.file_store.specs.declared.kinds.Item.{Item}
 use Rattle.file_store.specs.declared.kinds.Kind.TheVariants.{Absent, File, Dir, Other}
-use Rattle.tree_status.specs.Working.{is_own}
+use Rattle.tree_status.specs.Working.{is_own, is_working}
 
 -- Whether it is a directory.
 abbrev pub is_dir : Kind → Bool
@@ -36,3 +36,9 @@ kind_for key (task ∷ tasks) = if bytes_eq key task.name then Some task.kind el
 pub record ArePlanned (items tasks : List Item) : Type 0 where
   pub kinds : (key : List ℕ) → kind_for key tasks ≡ fold (with_task key) None items
   pub ascending : IsStrictlySortedBy (slice_cmp nat_cmp) (names_in tasks)
+
+-- The key of a task: a working name, or one with a slash behind it.
+pub record IsTask (key : List ℕ) : Type 0 where
+  pub name : List ℕ
+  pub works : is_working name ≡ true
+  pub is : (key ≡ name) ⊎ (key ≡ name ++ slash ∷ [])

@@ -1,19 +1,21 @@
 -- How the steps of a walk end.
 use Rattle.std.specs.Prelude.{◌≡◌, ◌⊎◌, ◌<◌, ℕ, ◌+◌, Bool, true, false, IsTrue, ◌==◌, if◌then◌else◌}
 use Rattle.std.specs.Prelude.{List, [], ◌∷◌, ◌++◌, map, length, Option, Some, None, bytes_eq, codes}
-use Rattle.std.specs.List.{filter, list_all}
+use Rattle.std.specs.Prelude.{nat_lt}
+use Rattle.std.specs.List.{filter, list_all, list_any}
 use Rattle.std.specs.FinMap.{entries, get}
 use Rattle.places.specs.All.{Names, slash, is_text, text_of, joined, names_of, pieces, is_above}
-use Rattle.places.specs.All.{Ground}
+use Rattle.places.specs.All.{Ground, longest}
 use Rattle.file_store.specs.All.{kind_at}
 use Rattle.file_store.specs.declared.kinds.Kind.{Kind}
 use Rattle.git_objects.specs.All.{oid}
 use Rattle.git_objects.specs.declared.objects.ObjKind.TheVariants.{Blob}
 use Rattle.faults.specs.declared.faults.Fault.{Fault}
 use Rattle.faults.specs.declared.faults.Fault.TheVariants.{OddKind, TooLarge, Dirty}
+use Rattle.repository.specs.All.{item_limit}
 use Rattle.tree_status.specs.Working.{ItemKind, Working, Items, items, item_at, is_working}
-use Rattle.tree_status.specs.Working.{git_file_limit, directory_of, kind_fault, fault_along}
-use Rattle.tree_status.specs.Working.{walk_fault}
+use Rattle.tree_status.specs.Working.{git_file_limit, directory_of, kind_fault}
+use Rattle.tree_status.specs.Working.{fault_along, walk_fault}
 use Rattle.tree_status.specs.Working.{files_among, working}
 use Rattle.tree_status.specs.declared.found.Found.{Found}
 use Rattle.tree_status.specs.declared.found.WorkingFile.{WorkingFile}
@@ -83,14 +85,34 @@ MayTake path fault = ⊥
 abbrev pub HasPlace : Names → List ℕ → Type 0
 HasPlace root path = is_text (joined root path) ≡ true
 
--- Beyond a limit: of the number of items, of a file's bytes, or of the text of an item's place,
--- with its directory's path.
+-- A path of working names.
+abbrev pub IsWorkingPath : List ℕ → Type 0
+IsWorkingPath path = list_all is_working (pieces path) ≡ true
+
+-- A name is longer than those of places are.
+abbrev pub is_long_name : List ℕ → Bool
+is_long_name name = nat_lt 255 (length name)
+
+-- Why a path of working names makes no place below the root: the place's text would be too long, or
+-- a name is.
+abbrev pub IsPastPlaces : Names → List ℕ → Type 0
+IsPastPlaces root path =
+    (longest < length (joined root path)) ⊎ (list_any is_long_name (pieces path) ≡ true)
+
+-- A path makes no place below the root: it is told by its directory's path, with the length of what
+-- would be the place's text.
+pub record IsLongItem (root : Names) (told : List ℕ) (size : ℕ) : Type 0 where
+  pub path : List ℕ
+  pub working : IsWorkingPath path
+  pub is : told ≡ directory_of path
+  pub counted : size ≡ length (joined root path)
+  pub over : IsPastPlaces root path
+
+-- Beyond a limit: of the number of items, of a file's bytes, or of the places.
 abbrev pub IsBeyond : Names → List ℕ → ℕ → Type 0
 IsBeyond root path size =
-    ((path ≡ codes ".") × (size ≡ 100001))
-    ⊎ (((git_file_limit < size) × HasPlace root path)
-    ⊎ ((item : List ℕ) × (path ≡ directory_of item) × (size ≡ length (joined root item))
-    × (is_text (joined root item) ≡ false)))
+    ((path ≡ codes ".") × (size ≡ item_limit + 1))
+    ⊎ (((git_file_limit < size) × HasPlace root path) ⊎ IsLongItem root path size)
 
 -- What may come of an item, whatever the files tell.
 abbrev pub MayMeet : Names → Fault → Type 0

@@ -8,7 +8,7 @@ use Rattle.std.specs.Cmp.Lexicographic.{slice_cmp}
 use Rattle.places.specs.All.{Names, path_of, relative, pieces, joined, is_text, text_of, is_above}
 use Rattle.places.specs.All.{all_but_last, Ground, file_at, stands, stands_below}
 use Rattle.file_store.specs.All.{is_item_name, or_next}
-use Rattle.repository.specs.All.{dlrepo, head_place}
+use Rattle.repository.specs.All.{dlrepo, head_place, item_limit}
 use Rattle.faults.specs.declared.faults.Fault.{Fault}
 use Rattle.faults.specs.declared.faults.Fault.TheVariants.{OddKind, TooLarge}
 
@@ -73,10 +73,6 @@ item_of None below nested = if below then Some (directory_kind nested) else None
 -- What stands at a place of a ground.
 unfoldable pub item_at : Ground → Names → Option ItemKind
 item_at g place = item_of (file_at g place) (stands_below g place) (is_nested g place)
-
--- How many items a walk may meet.
-abbrev pub item_limit : ℕ
-item_limit = 100000
 
 -- How many bytes a working file may have.
 abbrev pub git_file_limit : ℕ

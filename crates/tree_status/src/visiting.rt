@@ -1,23 +1,21 @@
 // One item of a walk.
 ghost use Rattle.std.specs.Prelude.{◌≡◌, ◌≤◌, ◌++◌, ◌∷◌, [], true, false, List, ℕ, length, codes, IfOk, MatchOption};
 ghost use Rattle.std.specs.Prelude.{Some};
-ghost use Rattle.places.specs.All.{is_text, joined, names_of, file_at};
+ghost use Rattle.places.specs.All.{IsPlace, is_text, joined, names_of, file_at};
 ghost use Rattle.file_store.specs.All.{kind_at};
 ghost use Rattle.acts.specs.All.{Reads};
 ghost use Rattle.faults.specs.declared.faults.Fault.TheVariants.{OddKind, TooLarge, Dirty};
 ghost use Rattle.tree_status.specs.Working.{directory_of, is_nested, item_at, fault_along, git_file_limit};
 ghost use Rattle.tree_status.specs.Walks.{MayMeet, MayFile, MayNest, MayTake, Went, one_of, AddsFile, Takes};
-ghost use Rattle.tree_status.specs.Walks.{RefusesItem, file_fault};
+ghost use Rattle.tree_status.specs.Walks.{IsWorkingPath, RefusesItem, file_fault};
 
 use crate::found::{Found, WorkingFile};
 use faults::{Fault, Trouble};
 use file_store::{Files, Kind, Place, PlaceErr};
 use git_objects::blob_id;
 use places::Text;
+use repository::ITEM_LIMIT;
 use std::alloc::{AllocError, Global};
-
-/// How many items a walk may meet.
-const ITEM_LIMIT: u64 = 100_000;
 
 /// How many bytes a working file may have.
 const GIT_FILE_LIMIT: u64 = 16_777_216;
@@ -48,7 +46,8 @@ fn too_many(alloc: Global) -> Result<Fault, AllocError>
 
 // The refusal of a path whose place would be none.
 fn too_long(alloc: Global, root: &Place, path: &str) -> Result<Fault, AllocError>
-    ensures { IfOk result (λ fault. fault ≡ TooLarge (directory_of path.now) (length (joined root.now path.now))) }
+    ensures fault { IfOk result (λ fault. fault ≡ TooLarge (directory_of path.now) (length (joined root.now path.now))) }
+    ensures place { IfOk result (λ _. IsPlace root.now) }
 {
     let size = root.joined(alloc, path)?.len() as u64;
     let path = text(alloc, directory_of(path))?;
@@ -190,6 +189,7 @@ pub(crate) fn visit<F: Files>(
     kind: Kind,
     found: &mut Found,
 ) -> Result<(), Trouble>
+    requires { IsWorkingPath path.now }
     ensures { Reads (λ fault. MayMeet root.now fault) F.tells
         (λ g _. kind ≡ kind_at g (root.now ++ names_of path.now) → Went root.now
         (one_of path.now (item_at g (root.now ++ names_of path.now))) found.old found.new)

@@ -2,11 +2,12 @@
 //
 // A directory is listed once, and what lies in it is taken in byte order of paths: the item at a path by `visit`, and
 // what lies in a directory, whose paths go on after a slash, in its turn.
-ghost use Rattle.std.specs.Prelude.{◌≡◌, ◌≤◌, ◌<◌, ◌+◌, ◌++◌, length, Some, None, MatchOption, List, ℕ, ◌∷◌, []};
+ghost use Rattle.std.specs.Prelude.{◌≡◌, ◌≤◌, ◌+◌, ◌++◌, length, Some, None, MatchOption, List, ℕ, ◌∷◌, []};
 ghost use Rattle.places.specs.All.{slash, longest, names_of};
 ghost use Rattle.acts.specs.All.{Reads};
 ghost use Rattle.tree_status.specs.Working.{items, fault_along, walk_fault};
-ghost use Rattle.tree_status.specs.Walks.{MayMeet, MayWalk, Went, within, part, IsAt, IsPlanned, AreWorking};
+ghost use Rattle.tree_status.specs.Tasks.{IsTask};
+ghost use Rattle.tree_status.specs.Walks.{MayMeet, MayWalk, Went, within, part, IsFront, IsAt, IsPlanned, AreWorking};
 
 use crate::found::{Found, WorkingFile};
 use crate::planning::planned;
@@ -33,8 +34,9 @@ fn take_task<F: Files>(
     task: &Item,
     found: &mut Found,
 ) -> Result<(), Trouble>
-    requires front { length front.now ≤ longest + 1 }
-    requires task { 0 < length task.now.name }
+    requires front { IsFront front.now }
+    requires short { length front.now ≤ longest + 1 }
+    requires task { IsTask task.now.name }
     ensures { Reads (λ fault. MayMeet root.now fault) F.tells
         (λ g _. IsPlanned root.now g (front.now ++ task.now.name) task.now.kind → Went root.now
         (part (front.now ++ task.now.name) (items root.now g)) found.old found.new)
@@ -64,7 +66,8 @@ fn walk<F: Files>(
     front: &str,
     found: &mut Found,
 ) -> Result<(), Trouble>
-    requires { length front.now ≤ longest + 1 }
+    requires front { IsFront front.now }
+    requires short { length front.now ≤ longest + 1 }
     ensures { Reads (λ fault. MayMeet root.now fault) F.tells
         (λ g _. IsAt root.now place.now front.now → Went root.now (within front.now (items root.now g)) found.old found.new)
         (λ g fault. IsAt root.now place.now front.now → fault_along root.now found.old.count

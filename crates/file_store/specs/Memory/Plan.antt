@@ -1,6 +1,6 @@
 -- Which calls of files or of an output in memory fail.
-use Rattle.std.specs.Prelude.{◌≡◌, ℕ, [], Bool, false, ◌||◌, if◌then◌else◌, Option, None, Some}
-use Rattle.std.specs.Prelude.{nat_le, nat_eq}
+use Rattle.std.specs.Prelude.{◌≡◌, ℕ, [], Bool, true, false, ◌||◌, if◌then◌else◌, Option, None}
+use Rattle.std.specs.Prelude.{Some, nat_le, nat_eq}
 use Rattle.std.specs.List.{list_any}
 use Rattle.file_store.specs.Causes.{one_more}
 use Rattle.file_store.specs.declared.memory.plan.Turn.{Turn}
@@ -29,13 +29,15 @@ turn_at plan n =
 abbrev pub turn_of : Plan → Turn
 turn_of plan = turn_at plan (one_more plan.calls)
 
--- A call that fails counts as a fault.
-abbrev pub faults_after : Turn → ℕ → ℕ
-faults_after Works n = n
-faults_after FailsBefore n = one_more n
-faults_after FailsAfter n = one_more n
+-- The plan with one more call counted.
+abbrev pub with_call : Plan → Plan
+with_call plan = record plan { calls = one_more plan.calls }
 
--- The plan with one more call counted, and its fault.
-abbrev pub counted : Plan → Plan
-counted plan =
-    record plan { calls = one_more plan.calls; faults = faults_after (turn_of plan) plan.faults }
+-- The plan with one more fault counted.
+abbrev pub with_fault : Plan → Plan
+with_fault plan = record plan { faults = one_more plan.faults }
+
+-- The plan with one more call counted, and with its fault where the call failed.
+abbrev pub counted : Bool → Plan → Plan
+counted true plan = with_fault (with_call plan)
+counted false plan = with_call plan

@@ -1,8 +1,9 @@
 // Files in memory: a disk, and round it the plan of the calls that fail.
 //
 // Each call is counted before anything else. One that fails before its effect ends there; one that fails after its
-// effect does all that it would do, and answers Failed.
-ghost use Rattle.std.specs.Prelude.{◌≡◌, ◌≤◌, IsTrue, IfOk, IfSome, MatchResult};
+// effect does all that it would do, and answers Failed. A fault is counted where Failed is answered, and nowhere else:
+// one that was to come after an effect doesn't come where the effect is refused, or has no memory.
+ghost use Rattle.std.specs.Prelude.{◌≡◌, IsTrue, IfOk, IfSome, MatchResult};
 ghost use Rattle.file_store.specs.declared.memory.errors.MemErr.TheVariants.{NoMemory};
 
 use crate::errors::FileErr;
@@ -13,7 +14,7 @@ use crate::memory::disk::MemDisk;
 use crate::memory::errors::MemErr;
 use crate::memory::lists::contents_of;
 use crate::memory::parts::copy_part;
-use crate::memory::plan::{Plan, Turn, answer};
+use crate::memory::plan::{Plan, Turn};
 use places::Place;
 use std::alloc::Global;
 
@@ -116,6 +117,7 @@ impl MemFiles {
 
 impl Files for MemFiles {
     ghost use Rattle.std.specs.Prelude.{true};
+    ghost use Rattle.file_store.specs.Causes.{Counts, has_failed};
     ghost use Rattle.file_store.specs.Memory.Disk.{grounded_in};
     ghost use Rattle.file_store.specs.Memory.Files.{drive_of};
     ghost use Rattle.file_store.specs.Disk.{MayStep, IsWritten, IsRenamed, IsRemoved, IsSynced, wrote, appended};
@@ -132,11 +134,12 @@ impl Files for MemFiles {
     ghost grounded = { λ files _. grounded_in files.disk };
 
     fn kind(&mut self, _: Global, place: &Place) -> Result<Kind, FileErr>
-        ensures later { (drive_of self.old).faults ≤ (drive_of self.new).faults }
+        ensures later { Counts (has_failed result) (drive_of self.old).faults (drive_of self.new).faults }
         ensures ends { KindEnds true place.now (drive_of self.old) (drive_of self.new) result }
         ensures turn { ReadsByTurn self.old self.new result }
     {
         if self.plan.next() != Turn::Works {
+            self.plan.count_fault();
             return Err(FileErr::Failed);
         }
         if self.disk.stands(place) {
@@ -149,11 +152,12 @@ impl Files for MemFiles {
     }
 
     fn size(&mut self, _: Global, place: &Place) -> Result<Option<u64>, FileErr>
-        ensures later { (drive_of self.old).faults ≤ (drive_of self.new).faults }
+        ensures later { Counts (has_failed result) (drive_of self.old).faults (drive_of self.new).faults }
         ensures ends { SizeEnds true place.now (drive_of self.old) (drive_of self.new) result }
         ensures turn { ReadsByTurn self.old self.new result }
     {
         if self.plan.next() != Turn::Works {
+            self.plan.count_fault();
             return Err(FileErr::Failed);
         }
         match self.disk.get(place) {
@@ -163,11 +167,12 @@ impl Files for MemFiles {
     }
 
     fn read(&mut self, alloc: Global, place: &Place) -> Result<Option<Vec<u8>>, FileErr>
-        ensures later { (drive_of self.old).faults ≤ (drive_of self.new).faults }
+        ensures later { Counts (has_failed result) (drive_of self.old).faults (drive_of self.new).faults }
         ensures ends { ReadEnds true place.now (drive_of self.old) (drive_of self.new) result }
         ensures turn { ReadsByTurn self.old self.new result }
     {
         if self.plan.next() != Turn::Works {
+            self.plan.count_fault();
             return Err(FileErr::Failed);
         }
         match self.disk.get(place) {
@@ -183,12 +188,13 @@ impl Files for MemFiles {
         from: u64,
         buffer: &mut [u8],
     ) -> Result<usize, FileErr>
-        ensures later { (drive_of self.old).faults ≤ (drive_of self.new).faults }
+        ensures later { Counts (has_failed result) (drive_of self.old).faults (drive_of self.new).faults }
         ensures ends { PartEnds true (record { place = place.now; from = from; buffer = buffer.old }) buffer.new
             (drive_of self.old) (drive_of self.new) result }
         ensures turn { ReadsByTurn self.old self.new result }
     {
         if self.plan.next() != Turn::Works {
+            self.plan.count_fault();
             return Err(FileErr::Failed);
         }
         match self.disk.get(place) {
@@ -198,18 +204,19 @@ impl Files for MemFiles {
     }
 
     fn list(&mut self, alloc: Global, place: &Place) -> Result<Vec<Item>, FileErr>
-        ensures later { (drive_of self.old).faults ≤ (drive_of self.new).faults }
+        ensures later { Counts (has_failed result) (drive_of self.old).faults (drive_of self.new).faults }
         ensures ends { ListEnds true place.now (drive_of self.old) (drive_of self.new) result }
         ensures turn { ReadsByTurn self.old self.new result }
     {
         if self.plan.next() != Turn::Works {
+            self.plan.count_fault();
             return Err(FileErr::Failed);
         }
         Ok(self.disk.list(alloc, place)?)
     }
 
     fn write(&mut self, alloc: Global, place: &Place, bytes: &[u8]) -> Result<(), FileErr>
-        ensures later { (drive_of self.old).faults ≤ (drive_of self.new).faults }
+        ensures later { Counts (has_failed result) (drive_of self.old).faults (drive_of self.new).faults }
         ensures ends { WriteEnds true place.now bytes.now (drive_of self.old) (drive_of self.new) result }
         ensures steps { IsTrue true → MayStep (IsWritten place.now) (drive_of self.old).history
             (drive_of self.new).history }
@@ -217,6 +224,7 @@ impl Files for MemFiles {
     {
         let turn = self.plan.next();
         if turn == Turn::FailsBefore {
+            self.plan.count_fault();
             return Err(FileErr::Failed);
         }
         if self.disk.is_shut(place) {
@@ -225,11 +233,11 @@ impl Files for MemFiles {
             });
         }
         self.disk.write(alloc, place, bytes)?;
-        answer(turn)
+        self.plan.answer(turn)
     }
 
     fn append(&mut self, alloc: Global, place: &Place, bytes: &[u8]) -> Result<(), FileErr>
-        ensures later { (drive_of self.old).faults ≤ (drive_of self.new).faults }
+        ensures later { Counts (has_failed result) (drive_of self.old).faults (drive_of self.new).faults }
         ensures ends { AppendEnds true place.now bytes.now (drive_of self.old) (drive_of self.new) result }
         ensures steps { IsTrue true → MayStep (IsWritten place.now) (drive_of self.old).history
             (drive_of self.new).history }
@@ -237,6 +245,7 @@ impl Files for MemFiles {
     {
         let turn = self.plan.next();
         if turn == Turn::FailsBefore {
+            self.plan.count_fault();
             return Err(FileErr::Failed);
         }
         if self.disk.is_shut(place) {
@@ -245,11 +254,11 @@ impl Files for MemFiles {
             });
         }
         self.disk.append(alloc, place, bytes)?;
-        answer(turn)
+        self.plan.answer(turn)
     }
 
     fn rename(&mut self, alloc: Global, from: &Place, to: &Place) -> Result<bool, FileErr>
-        ensures later { (drive_of self.old).faults ≤ (drive_of self.new).faults }
+        ensures later { Counts (has_failed result) (drive_of self.old).faults (drive_of self.new).faults }
         ensures ends { RenameEnds true from.now to.now (drive_of self.old) (drive_of self.new) result }
         ensures steps { IsTrue true → MayStep (IsRenamed from.now to.now)
             (drive_of self.old).history (drive_of self.new).history }
@@ -257,10 +266,11 @@ impl Files for MemFiles {
     {
         let turn = self.plan.next();
         if turn == Turn::FailsBefore {
+            self.plan.count_fault();
             return Err(FileErr::Failed);
         }
         if !self.disk.stands(from) {
-            answer(turn)?;
+            self.plan.answer(turn)?;
             return Ok(false);
         }
         if self.disk.is_shut(to) {
@@ -269,12 +279,12 @@ impl Files for MemFiles {
             });
         }
         self.disk.rename(alloc, from, to)?;
-        answer(turn)?;
+        self.plan.answer(turn)?;
         Ok(true)
     }
 
     fn remove(&mut self, alloc: Global, place: &Place) -> Result<bool, FileErr>
-        ensures later { (drive_of self.old).faults ≤ (drive_of self.new).faults }
+        ensures later { Counts (has_failed result) (drive_of self.old).faults (drive_of self.new).faults }
         ensures ends { RemoveEnds true place.now (drive_of self.old) (drive_of self.new) result }
         ensures steps { IsTrue true → MayStep (IsRemoved place.now) (drive_of self.old).history
             (drive_of self.new).history }
@@ -282,28 +292,30 @@ impl Files for MemFiles {
     {
         let turn = self.plan.next();
         if turn == Turn::FailsBefore {
+            self.plan.count_fault();
             return Err(FileErr::Failed);
         }
         if !self.disk.stands(place) {
-            answer(turn)?;
+            self.plan.answer(turn)?;
             return Ok(false);
         }
         self.disk.remove(alloc, place)?;
-        answer(turn)?;
+        self.plan.answer(turn)?;
         Ok(true)
     }
 
     fn barrier(&mut self, _: Global) -> Result<(), FileErr>
-        ensures later { (drive_of self.old).faults ≤ (drive_of self.new).faults }
+        ensures later { Counts (has_failed result) (drive_of self.old).faults (drive_of self.new).faults }
         ensures ends { BarrierEnds true (drive_of self.old) (drive_of self.new) result }
         ensures steps { IsTrue true → MayStep IsSynced (drive_of self.old).history (drive_of self.new).history }
         ensures turn { ChangesByTurn (with_change synced) self.old self.new result }
     {
         let turn = self.plan.next();
         if turn == Turn::FailsBefore {
+            self.plan.count_fault();
             return Err(FileErr::Failed);
         }
         self.disk.barrier()?;
-        answer(turn)
+        self.plan.answer(turn)
     }
 }

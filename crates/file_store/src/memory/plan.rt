@@ -1,6 +1,5 @@
 // Which calls fail.
-ghost use Rattle.std.specs.Prelude.{◌≡◌, ◌≢◌, ◌≤◌, OnOk, IfErr};
-ghost use Rattle.file_store.specs.Causes.{Rose};
+ghost use Rattle.std.specs.Prelude.{◌≡◌, ◌≢◌, OnOk, OnErr, IfErr};
 ghost use Rattle.file_store.specs.declared.memory.plan.Turn.TheVariants.{Works};
 ghost use Rattle.file_store.specs.declared.errors.FileErr.TheVariants.{Failed};
 
@@ -26,7 +25,7 @@ pub(crate) struct Plan {
 }
 
 impl Plan {
-    ghost use Rattle.file_store.specs.Memory.Plan.{NoneFails, is_stopped, turn_at, turn_of, counted};
+    ghost use Rattle.file_store.specs.Memory.Plan.{NoneFails, is_stopped, turn_at, turn_of, with_call, with_fault};
 
     // None fails.
     pub(crate) fn new(alloc: Global) -> Plan
@@ -71,16 +70,33 @@ impl Plan {
     // Counts a call, and says what happens to it.
     pub(crate) fn next(&mut self) -> Turn
         ensures turn { result ≡ turn_of self.old }
-        ensures plan { self.new ≡ counted self.old }
-        ensures later { self.old.faults ≤ self.new.faults }
-        ensures rose { result ≢ Works → Rose self.old.faults self.new.faults }
+        ensures plan { self.new ≡ with_call self.old }
     {
         self.calls = self.calls.saturating_add(1);
-        let turn = self.turn();
-        if turn != Turn::Works {
-            self.faults = self.faults.saturating_add(1);
+        self.turn()
+    }
+
+    // Counts a fault: the call that is counted is answered as failed.
+    pub(crate) fn count_fault(&mut self)
+        ensures { self.new ≡ with_fault self.old }
+    {
+        self.faults = self.faults.saturating_add(1);
+    }
+
+    // The answer of a call that has come to its end, with its fault counted.
+    pub(crate) fn answer(&mut self, turn: Turn) -> Result<(), FileErr>
+        ensures works { OnOk result (turn ≡ Works) }
+        ensures same { OnOk result (self.new ≡ self.old) }
+        ensures fails { IfErr result (λ e. (e ≡ Failed) × (turn ≢ Works)) }
+        ensures fault { OnErr result (self.new ≡ with_fault self.old) }
+    {
+        match turn {
+            Turn::Works => Ok(()),
+            _ => {
+                self.count_fault();
+                Err(FileErr::Failed)
+            }
         }
-        turn
     }
 
     // What happens to the call that is counted.
@@ -103,16 +119,5 @@ impl Plan {
             Some(n) => n <= self.calls,
             None => false,
         }
-    }
-}
-
-// The answer of a call that has come to its end.
-pub(crate) fn answer(turn: Turn) -> Result<(), FileErr>
-    ensures works { OnOk result (turn ≡ Works) }
-    ensures fails { IfErr result (λ e. (e ≡ Failed) × (turn ≢ Works)) }
-{
-    match turn {
-        Turn::Works => Ok(()),
-        _ => Err(FileErr::Failed),
     }
 }

@@ -48,7 +48,7 @@ impl MemSink {
 
 impl Sink for MemSink {
     ghost use Rattle.std.specs.Prelude.{true, ◌↔◌, Err};
-    ghost use Rattle.file_store.specs.Tape.{IsLater, PieceEnds};
+    ghost use Rattle.file_store.specs.Tape.{CountsBoth, PieceEnds, sink_failed};
     ghost use Rattle.file_store.specs.declared.errors.SinkErr.TheVariants.{Failed, NoMemory};
 
     ghost tells = { true };
@@ -56,14 +56,15 @@ impl Sink for MemSink {
     ghost tape = { tape_of };
 
     fn write(&mut self, piece: &[u8]) -> Result<usize, SinkErr>
-        ensures later { IsLater (tape_of self.old) (tape_of self.new) }
+        ensures later { CountsBoth (tape_of self.old) (tape_of self.new) result }
         ensures ends { PieceEnds true piece.now (tape_of self.old) (tape_of self.new) result }
         ensures whole { IfOk result (λ count. count ≡ length piece.now) }
         ensures turn { (result ≡ Err Failed) ↔ (turn_of self.old.plan ≢ Works) }
-        ensures count { self.new.plan ≡ counted self.old.plan }
+        ensures count { self.new.plan ≡ counted (sink_failed result) self.old.plan }
         ensures wants { result ≢ Err NoMemory → self.new.wants ≡ self.old.wants }
     {
         if self.plan.next() != Turn::Works {
+            self.plan.count_fault();
             return Err(SinkErr::Failed);
         }
         match self.bytes.extend_from_slice(piece) {

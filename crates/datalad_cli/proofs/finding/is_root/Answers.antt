@@ -10,6 +10,6 @@ returns-in-None g c =
 
 pub returns-in_ok-size-in-Some : goal.returns-in_ok-size-in-Some
 returns-in_ok-size-in-Some g c =
-    read_gives c.size.ensures.later (λ t.
+    read_gives c.in_ok-size-in-Some.ensures.later (λ t.
     let e = c.in_ok-size-in-Some.ensures.ends t in
     (e.0, c.is_some.ensures ∙ root_is (present (g.F.Files.drive c.args.files.now)) c.args.place.now c.in-Some.head c.in_ok-size-in-Some.field-0 (sym c.in_ok-head_within.ensures ∙ c.in-Some.is) e.1))

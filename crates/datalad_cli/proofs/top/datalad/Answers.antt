@@ -18,7 +18,7 @@ returns-in-Some-clause-ends g c =
     let d = g.F.Files.drive c.args.files.now in
     let o = g.O.Sink.tape c.args.out.now in
     subst (λ (r : Reading). CallEnds t r (world_of d o (g.E.Sink.tape c.args.err.now)) (world_of d o (g.E.Sink.tape c.say_usage.new.sink)) c.say_usage.result)
-    (sym (ap (form_reading call) (sym c.misread_at.ensures ∙ c.in-Some.is))) (refl, refl, c.say_usage.ensures.ends)
+    (sym (ap (form_reading call) (sym c.misread_at.ensures ∙ c.in-Some.is))) (refl, refl, c.say_usage.ensures.later, c.say_usage.ensures.ends)
 
 pub returns-in-Some-clause-words : goal.returns-in-Some-clause-words
 returns-in-Some-clause-words g c =
@@ -41,7 +41,7 @@ returns-clause-ends g c =
     (prints t (command_of call) lines old new c.act-outcome.result
     (subst (λ (l : List Line). ActsAs (λ fault. MayAnswer t.files (command_of call) fault) t.files (λ g act. IsActOf (command_of call) g act) l lines old.drive new.drive c.act-outcome.result) c.new-lines.ensures.items c.act-outcome.ensures.acts)
     (follows c.laws.ensures.made c.laws.ensures.kept c.laws.ensures.remains c.laws.ensures.complete c.laws.ensures.single call (omega arith) old.drive new.drive)
-    c.report.result
+    c.report.result c.report.ensures.out_later c.report.ensures.err_later
     (subst (λ (ls : List Line). ReportEnds t.heard ls c.act-outcome.result old.tapes new.tapes c.report.result) c.as_slice.ensures.value c.report.ensures.ends))
 
 pub returns-clause-words : goal.returns-clause-words
@@ -52,7 +52,7 @@ returns-clause-words g c =
     let new = world_of (g.F.Files.drive c.act-outcome.new.files) (g.O.Sink.tape c.report.new.out) (g.E.Sink.tape c.report.new.err) in
     let lines = c.act-outcome.new.lines.items in
     let may : MayEnd t.files (command_of call) lines c.act-outcome.result =
-    record { says = c.act-outcome.ensures.says; fault = fault_of t.files (command_of call) old.drive new.drive c.act-outcome.result c.act-outcome.ensures.acts.cause } in
+    record { says = c.act-outcome.ensures.says; fault = fault_of t.files (command_of call) c.act-outcome.result c.act-outcome.ensures.acts.cause } in
     subst (λ (r : Reading). WordsDecide t r old new c.report.result) (sym (ap (form_reading call) (sym c.misread_at.ensures ∙ c.in_default.is)))
     (command_says t (command_of call) old new lines c.act-outcome.result c.report.result may
     (subst (λ (ls : List Line). ReportEnds t.heard ls c.act-outcome.result old.tapes new.tapes c.report.result) c.as_slice.ensures.value c.report.ensures.ends))

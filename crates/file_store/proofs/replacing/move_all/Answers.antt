@@ -6,7 +6,7 @@ use Rattle.file_store.proofs.Moves.{moving_starts, moving_source, moved_along, m
 use Rattle.file_store.proofs.replacing.move_all.Goals as goal
 
 pub loop-replacement-init : goal.loop-replacement-init
-loop-replacement-init g c = record { reached = λ told. moving_starts c.args.list.now (g.F.Files.drive c.args.files.now) (c.requires.staged told); no_fewer = search rules }
+loop-replacement-init g c = record { reached = λ told. moving_starts c.args.list.now (g.F.Files.drive c.args.files.now) (c.requires.staged told); no_more = search rules }
 
 pub returns-in_err-rename-clause-crash : goal.returns-in_err-rename-clause-crash
 returns-in_err-rename-clause-crash g c = λ told.
@@ -30,7 +30,7 @@ loop-replacement-preserved g c =
     c.in_ok-rename.field-0 c.in_ok-rename.ensures.ends in
     record {
       reached = λ told. moving_after c.args.list.now _ old.history new.history i r here listed (c.loop-replacement.invariant.reached told) c.requires.apart (c.rename.ensures.steps told) (moves told).0 (moves told).2;
-      no_fewer = search rules;
+      no_more = search rules;
     }
 
 pub returns-clause-crash : goal.returns-clause-crash

@@ -1,4 +1,3 @@
-use Rattle.std.proofs.Common.{rules}
 use Rattle.file_store.specs.Replaced.{only}
 use Rattle.file_store.proofs.Course.{goes_syncing}
 use Rattle.file_store.proofs.ManyFiles.{staged_goes}
@@ -31,7 +30,7 @@ returns-clause-ends g c =
     let w = c.in_ok-write.ensures.ends in
     let s = c.in_ok-barrier.ensures.ends in
     let m = found_it g.F.Files.tells tmp p bytes d2 d3 (λ told. source tmp p bytes d0.history d1.history d2.history (w told).0 (s told)) c.in_ok-rename.field-0 c.in_ok-rename.ensures.ends in
-    replace_ends g.F.Files.tells tmp p bytes d0 d1 d2 d3 w s m (search rules) (drive c.barrier-2.new.self) c.barrier-2.result c.barrier-2.ensures.ends
+    replace_ends g.F.Files.tells tmp p bytes d0 d1 d2 d3 w s m (drive c.barrier-2.new.self) c.barrier-2.result c.barrier-2.ensures.ends
 
 pub returns-clause-crash : goal.returns-clause-crash
 returns-clause-crash g c = λ told.

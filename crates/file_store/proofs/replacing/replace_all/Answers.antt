@@ -1,4 +1,3 @@
-use Rattle.std.proofs.Common.{rules}
 use Rattle.std.proofs.lemmas.Result.{err_from_is_err_and}
 use Rattle.file_store.proofs.Course.{goes_syncing}
 use Rattle.file_store.proofs.ManyFiles.{are_ready, move_fails, all_ends, staged_goes, all_goes}
@@ -20,7 +19,7 @@ returns-in_err-move_all-clause-ends g c =
     let drive = g.F.Files.drive in
     let p = err_from_is_err_and c.from_residual-in_err-move_all.result c.from_residual-in_err-move_all.ensures.1 in
     rw (p.1, p.2) (move_fails g.F.Files.tells c.args.list.now (drive c.args.files.now) (drive c.stage_all.new.files) (drive c.barrier.new.self)
-    c.in_ok-stage_all.ensures.ends c.in_ok-barrier.ensures.ends (search rules) (drive c.move_all.new.files) c.in_err-move_all.field-0.0 c.in_err-move_all.ensures.ends)
+    c.in_ok-stage_all.ensures.ends c.in_ok-barrier.ensures.ends (drive c.move_all.new.files) c.in_err-move_all.field-0.0 c.in_err-move_all.ensures.ends)
 
 pub returns-in_err-move_all-clause-crash : goal.returns-in_err-move_all-clause-crash
 returns-in_err-move_all-clause-crash g c = λ told.
@@ -32,8 +31,8 @@ pub returns-clause-ends : goal.returns-clause-ends
 returns-clause-ends g c =
     let drive = g.F.Files.drive in
     all_ends g.F.Files.tells c.args.list.now (drive c.args.files.now) (drive c.stage_all.new.files) (drive c.barrier.new.self)
-    c.in_ok-stage_all.ensures.ends c.in_ok-barrier.ensures.ends (search rules)
-    (drive c.move_all.new.files) (drive c.barrier-2.new.self) c.barrier-2.result c.in_ok-move_all.ensures.ends (search rules) c.barrier-2.ensures.ends
+    c.in_ok-stage_all.ensures.ends c.in_ok-barrier.ensures.ends
+    (drive c.move_all.new.files) (drive c.barrier-2.new.self) c.barrier-2.result c.in_ok-move_all.ensures.ends c.barrier-2.ensures.ends
 
 pub returns-clause-crash : goal.returns-clause-crash
 returns-clause-crash g c = λ told.

@@ -6,7 +6,7 @@ use Rattle.file_store.proofs.Writes.{drop_here, staging_starts, staging_after}
 use Rattle.file_store.proofs.replacing.stage_all.Goals as goal
 
 pub loop-replacement-init : goal.loop-replacement-init
-loop-replacement-init g c = record { reached = λ told. staging_starts c.args.list.now _; run = λ told. goes_nowhere _; no_fewer = search rules }
+loop-replacement-init g c = record { reached = λ told. staging_starts c.args.list.now _; run = λ told. goes_nowhere _; no_more = search rules }
 
 pub returns-in_err-write-clause-crash : goal.returns-in_err-write-clause-crash
 returns-in_err-write-clause-crash g c = λ told.
@@ -28,5 +28,5 @@ loop-replacement-preserved g c =
           let wrote_all = subst (λ (b : List ℕ). (g.F.Files.drive c.write.new.self).history ≡ next now (wrote r.tmp b now.latest)) c.as_slice.ensures ok.0 in
           staging_after c.args.list.now _ now _ i r here (c.loop-replacement.invariant.reached told) wrote_all ok.1;
       run = λ told. goes_writing r.tmp (c.loop-replacement.invariant.run told) (λ q firm. firm i r listed) (c.write.ensures.steps told);
-      no_fewer = search rules;
+      no_more = search rules;
     }

@@ -11,10 +11,8 @@ part_more bytes text rest d n e =
 pub loop-done-preserved : goal.loop-done-preserved
 loop-done-preserved g c = record {
   within = omega (arith, c.in_ok-done.ensures.ends.0, ap length c.rest.ensures, length-drop {A = ℕ});
-  later = record {
-    faults = omega (arith, c.loop-done.invariant.later.faults, c.in_ok-done.ensures.later.faults);
-    wants = omega (arith, c.loop-done.invariant.later.wants, c.in_ok-done.ensures.later.wants);
-  };
+  faults = c.in_ok-done.ensures.later.faults ∙ c.loop-done.invariant.faults;
+  wants = c.in_ok-done.ensures.later.wants ∙ c.loop-done.invariant.wants;
   taken = λ told.
       c.in_ok-done.ensures.ends.2 told
       ∙ ap (λ (x : List ℕ). x ++ take c.in_ok-done.field-0 c.rest.result.now) (c.loop-done.invariant.taken told)

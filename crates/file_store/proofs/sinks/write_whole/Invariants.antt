@@ -1,6 +1,6 @@
-use Rattle.std.proofs.Common.{◌-◌, ◌≤◌, length}
+use Rattle.std.proofs.Common.{◌≡◌, ◌-◌, ◌≤◌, length}
 use Rattle.std.specs.Prelude.{take}
-use Rattle.file_store.specs.Tape.{Grew, IsLater}
+use Rattle.file_store.specs.Tape.{Grew}
 use Rattle.file_store.proofs.sinks.write_whole.Given as goal
 
 abbrev pub invariant-loop-done : goal.invariant-loop-done
@@ -8,7 +8,8 @@ invariant-loop-done g l =
     let tape = g.S.Sink.tape in
     record {
       within : l.done ≤ length l.bytes;
-      later : IsLater (tape l.fn.sink) (tape l.sink);
+      faults : (tape l.sink).faults ≡ (tape l.fn.sink).faults;
+      wants : (tape l.sink).wants ≡ (tape l.fn.sink).wants;
       taken : Grew g.S.Sink.tells (tape l.fn.sink) (tape l.sink) (take l.done l.bytes);
     }
 

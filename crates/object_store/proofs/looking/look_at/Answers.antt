@@ -21,7 +21,7 @@ returns-in-Some-clause-reads g c =
     let is : found_fault repo object c.in-Some.found.items ≡ Some c.in-Some-2.fault =
     ap (found_fault repo object) (sym c.as_slice.ensures.value) ∙ sym (c.in_ok-refusal-in-Some.ensures repo at) ∙ c.in-Some-2.is in
     let found : option_map (λ (v : Vec ℕ Global). v.items) c.in_ok-found.field-0 ≡ Some c.in-Some.found.items = ap (λ (o : Option (Vec ℕ Global)). option_map (λ (v : Vec ℕ Global). v.items) o) c.in-Some.is in
-    read_refuses (found_is repo object c.in-Some.found.items c.in-Some-2.fault is) c.read.ensures.later (λ t. (
+    read_refuses (found_is repo object c.in-Some.found.items c.in-Some-2.fault is) c.in_ok-found.ensures.later (λ t. (
       (c.in_ok-found.ensures.ends t).0,
       ap (λ (file : Option (List ℕ)). fault_in repo object file) (ap (λ (p : Names). file_at (present (g.F.Files.drive c.args.files.now)) p) (sym at) ∙ sym (c.in_ok-found.ensures.ends t).1 ∙ found) ∙ is,
     ))

@@ -17,7 +17,7 @@ returns g c =
     let text = take c.in_ok-count.count c.read_part.new.buffer in
     let is : c.in_ok-head_given.field-0 ≡ head_given text = c.in_ok-head_given.ensures in
     record {
-      reads = read_gives c.read_part.ensures.later (λ t.
+      reads = read_gives c.in_ok-count.ensures.later (λ t.
           let was = c.in_ok-count.ensures.ends.1 t in
           (was.0, same_found c.in_ok-head_given.field-0 _ (is ∙ front_given head_given 217 218 head_form (omega arith) (present (g.F.Files.drive c.args.files.now)) c.args.place.now _ c.read_part.new.buffer c.in_ok-count.count was.1 was.2)));
       named = subst (λ (o : Option Head). IsNamed (branch_by o)) (sym is) (head_named text);

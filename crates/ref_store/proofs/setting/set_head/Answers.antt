@@ -33,7 +33,7 @@ returns-in_err-replace g c = λ is.
     exits c.from_residual-in_err-replace.ensures.1
     (head_put g.F.Files.tells c.args.repo.now c.args.head.now (drive c.args.files.now) is fits
     c.in_ok-tmp.tmp c.in_ok-place.place c.as_slice.result.now c.in_ok-tmp.ensures c.in_ok-place.ensures text
-    (drive c.replace.new.files) (Err c.in_err-replace.field-0.0) c.replace.ensures.later c.in_err-replace.ensures.ends c.replace.ensures.crash)
+    (drive c.replace.new.files) (Err c.in_err-replace.field-0.0) c.in_err-replace.ensures.later c.in_err-replace.ensures.ends c.replace.ensures.crash)
 
 pub returns : goal.returns
 returns g c = λ is.
@@ -42,4 +42,4 @@ returns g c = λ is.
     let text : c.as_slice.result.now ≡ head_text c.args.head.now = search rules in
     head_put g.F.Files.tells c.args.repo.now c.args.head.now (drive c.args.files.now) is fits
     c.in_ok-tmp.tmp c.in_ok-place.place c.as_slice.result.now c.in_ok-tmp.ensures c.in_ok-place.ensures text
-    (drive c.replace.new.files) (Ok tt) c.replace.ensures.later c.in_ok-replace.ensures.ends c.replace.ensures.crash
+    (drive c.replace.new.files) (Ok tt) c.in_ok-replace.ensures.later c.in_ok-replace.ensures.ends c.replace.ensures.crash

@@ -46,7 +46,7 @@ returns-in_err-replace g c = λ is.
     exits c.from_residual-in_err-replace.ensures.1
     (tip_put g.F.Files.tells c.args.repo.now c.args.id.now.0 (drive c.args.files.now) (drive c.read_head.new.files) c.in_ok-head.head c.in_ok-head.ensures.reads is fits
     c.in_ok-tmp.tmp c.in_ok-place.place c.as_slice.result.now c.in_ok-tmp.ensures c.in_ok-place.ensures text
-    (drive c.replace.new.files) (Err c.in_err-replace.field-0.0) c.replace.ensures.later c.in_err-replace.ensures.ends c.replace.ensures.crash)
+    (drive c.replace.new.files) (Err c.in_err-replace.field-0.0) c.in_err-replace.ensures.later c.in_err-replace.ensures.ends c.replace.ensures.crash)
 
 pub returns : goal.returns
 returns g c = λ is.
@@ -55,4 +55,4 @@ returns g c = λ is.
     let text : c.as_slice.result.now ≡ id_text c.args.id.now.0 = search rules in
     tip_put g.F.Files.tells c.args.repo.now c.args.id.now.0 (drive c.args.files.now) (drive c.read_head.new.files) c.in_ok-head.head c.in_ok-head.ensures.reads is fits
     c.in_ok-tmp.tmp c.in_ok-place.place c.as_slice.result.now c.in_ok-tmp.ensures c.in_ok-place.ensures text
-    (drive c.replace.new.files) (Ok tt) c.replace.ensures.later c.in_ok-replace.ensures.ends c.replace.ensures.crash
+    (drive c.replace.new.files) (Ok tt) c.in_ok-replace.ensures.later c.in_ok-replace.ensures.ends c.replace.ensures.crash

@@ -1,18 +1,15 @@
 use Rattle.std.proofs.Common.{◌≡◌, ◌<◌, ◌++◌, ◌∷◌, ◌∙◌, [], List, ℕ, false, length, get_or, sym, ap, subst, arith}
-use Rattle.git_objects.specs.All.{is_tree}
 use Rattle.git_objects.specs.declared.entries.TreeEntry.{TreeEntry}
 use Rattle.git_objects.specs.declared.ids.Id.{Id}
 use Rattle.snapshot.specs.Leaves.{leaf_entry, dir_entry}
 use Rattle.snapshot.specs.Builds.{all_seen, weight, IsGroup, BuildsNext, BuildsDir, BuildsFront}
-use Rattle.snapshot.specs.Builds.{BuildFails, PutsTree}
+use Rattle.snapshot.specs.Builds.{PutsTree}
+use Rattle.snapshot.specs.Order.{IsPathList}
 use Rattle.snapshot.specs.declared.building.Rest.{Rest}
 use Rattle.snapshot.specs.declared.entries.Entry.{Entry}
 use Rattle.snapshot.specs.declared.entries.Leaf.TheVariants.{Git}
-use Rattle.snapshot.proofs.Trees.{weight-group, some_in, leaf_first, dir_next, one_more, whole_dir, rest_left, length-all_seen, none_left, left_weight, some_left, match_map, fails_within, fails_memory, left_list, tree_refused}
+use Rattle.snapshot.proofs.Trees.{weight-group, some_in, leaf_first, dir_next, one_more, whole_dir, rest_left, length-all_seen, none_left, left_weight, some_left, if_ok, left_list, has_tree}
 use Rattle.snapshot.proofs.Valid.{part_list}
-use Rattle.std.proofs.lemmas.Result.{err_from_is_err_and}
-use Rattle.faults.specs.declared.faults.Trouble.{Trouble}
-use Rattle.faults.specs.declared.faults.Trouble.TheVariants.{NoMemory}
 use Rattle.snapshot.proofs.building.+building.Goals as goal
 
 -- what stands past a list's end
@@ -35,8 +32,7 @@ build_dir-returns t c =
     let entries = c.loop-left.entries.items in
     let left : all_seen c.loop-left.left.now ≡ [] = none_left c.loop-left.left.now (sym c.is_empty.ensures ∙ c.loop-left-test.false) in
     let front = subst (λ (z : List Entry). BuildsFront list z entries old mid) left c.loop-left.invariant in
-    match_map c.put_tree.result (λ (id : Id). PutsTree entries id.0 mid new) (λ (id : Id). BuildsDir list id.0 old new) (λ (e : Trouble). e ≡ NoMemory) (BuildFails list)
-    (λ id put. whole_dir list entries id.0 old mid new front put) (fails_memory list) c.put_tree.ensures
+    if_ok c.put_tree.result (λ (id : Id). PutsTree entries id.0 mid new) (λ (id : Id). BuildsDir list id.0 old new) (λ id put. whole_dir list entries id.0 old mid new front put) c.put_tree.ensures
 
 pub build_next-build_dir-requires : goal.build_next-build_dir-requires
 build_next-build_dir-requires t c =
@@ -44,9 +40,11 @@ build_next-build_dir-requires t c =
     let part = all_seen c.in_ok-part-in-Some.part.items in
     let name = c.in-Some.name.now in
     let group = c.in_ok-part-in-Some.ensures in
-    let less : weight part < weight list = weight-group name list part group (some_in c.args.rests.now _ name _ part c.requires c.in-Some.ensures.2 group) in
-    let same : weight (all_seen c.as_slice.result.now) ≡ weight part = ap (λ (z : List Rest). weight (all_seen z)) c.as_slice.ensures.value in
-    (omega (arith, c.decreases, less, same), tt)
+    let less : weight part < weight list = weight-group name list part group (some_in c.args.rests.now _ name _ part c.requires.some c.in-Some.ensures.2 group) in
+    let same : weight (all_seen c.as_slice.result.now) ≡ weight part = ap (λ (z : List Rest). weight (all_seen z)) c.as_slice.ensures.value in (
+      omega (arith, c.decreases, less, same),
+      subst (λ (z : List Rest). IsPathList (all_seen z)) (sym c.as_slice.ensures.value) (part_list name list part c.in-Some.ensures.0 group c.requires.paths),
+    )
 
 pub build_next-returns-in_ok-push-in-None : goal.build_next-returns-in_ok-push-in-None
 build_next-returns-in_ok-push-in-None t c =
@@ -55,7 +53,7 @@ build_next-returns-in_ok-push-in-None t c =
     let name = c.new-name.ensures ∙ c.in_ok-from_str-in-None.ensures.ok in
     let entry = c.entry.ensures ∙ ap (λ (z : List ℕ). leaf_entry z (get_or c.args.rests.now 0 nothing).leaf) name in
     let items : c.push.new.self.items ≡ old ++ leaf_entry (get_or c.args.rests.now 0 nothing).path.now (get_or c.args.rests.now 0 nothing).leaf ∷ [] = c.in_ok-push-in-None.ensures.items ∙ ap (λ (z : TreeEntry). old ++ z ∷ []) entry in
-    subst (λ (z : List TreeEntry). BuildsNext (all_seen c.args.rests.now) 1 old z objects objects) (sym items) (leaf_first c.args.rests.now nothing old objects c.requires c.in-None.ensures)
+    subst (λ (z : List TreeEntry). BuildsNext (all_seen c.args.rests.now) 1 old z objects objects) (sym items) (leaf_first c.args.rests.now nothing old objects c.requires.some c.in-None.ensures)
 
 pub build_next-returns-in_ok-push-in-Some : goal.build_next-returns-in_ok-push-in-Some
 build_next-returns-in_ok-push-in-Some t c =
@@ -68,7 +66,7 @@ build_next-returns-in_ok-push-in-Some t c =
     let id = c.in_ok-id-in-Some.id.0 in
     let group = c.in_ok-part-in-Some.ensures in
     let built = subst (λ (z : List Rest). BuildsDir (all_seen z) id objects stored) c.as_slice.ensures.value c.in_ok-id-in-Some.ensures in
-    let next = dir_next name list part id old objects stored c.in-Some.ensures.0 group (some_in c.args.rests.now nothing name _ part c.requires c.in-Some.ensures.2 group) built in
+    let next = dir_next name list part id old objects stored c.in-Some.ensures.0 group (some_in c.args.rests.now nothing name _ part c.requires.some c.in-Some.ensures.2 group) built in
     let named = c.new-name-in-Some.ensures ∙ c.in_ok-from_str-in-Some.ensures.ok in
     let items : c.push-in-Some.new.self.items ≡ old ++ dir_entry name (record { 0 = id }) ∷ [] = c.in_ok-push-in-Some.ensures.items ∙ ap (λ (z : List ℕ). old ++ dir_entry z (record { 0 = id }) ∷ []) named in
     let size : length part ≡ c.len.result = length-all_seen c.in_ok-part-in-Some.part.items ∙ ap (λ (z : List Rest). length z) (sym c.as_slice.ensures.value) ∙ c.as_slice.ensures.len ∙ sym c.len.ensures in
@@ -77,31 +75,22 @@ build_next-returns-in_ok-push-in-Some t c =
 
 pub build_dir-build_next-requires : goal.build_dir-build_next-requires
 build_dir-build_next-requires t c =
-    let less = left_weight (all_seen c.args.rests.now) (all_seen c.loop-left.left.now) c.loop-left.entries.items c.args.objects.now.items c.loop-left.objects.items c.loop-left.invariant in
-    (omega (arith, c.decreases, less), some_left c.loop-left.left.now (sym c.is_empty.ensures ∙ c.loop-left-test.true))
-
-pub build_dir-returns-in_err-taken : goal.build_dir-returns-in_err-taken
-build_dir-returns-in_err-taken t c =
     let list = all_seen c.args.rests.now in
     let left = all_seen c.loop-left.left.now in
-    let p = err_from_is_err_and c.from_residual.result c.from_residual.ensures.1 in
-    rw (p.1, p.2) (fails_within list left _ (left_list list left c.loop-left.entries.items c.args.objects.now.items c.loop-left.objects.items c.loop-left.invariant) c.in_err-taken.ensures)
+    let less = left_weight list left c.loop-left.entries.items c.args.objects.now.items c.loop-left.objects.items c.loop-left.invariant in (
+      omega (arith, c.decreases, less),
+      (
+        some_left c.loop-left.left.now (sym c.is_empty.ensures ∙ c.loop-left-test.true),
+        left_list list left c.loop-left.entries.items c.args.objects.now.items c.loop-left.objects.items c.loop-left.invariant c.requires,
+      ),
+    )
 
-pub build_dir-returns-then-not-are_entries : goal.build_dir-returns-then-not-are_entries
-build_dir-returns-then-not-are_entries t c =
+pub build_dir-invariant_of-put_tree : goal.build_dir-invariant_of-put_tree
+build_dir-invariant_of-put_tree t c =
     let list = all_seen c.args.rests.now in
     let old = c.args.objects.now.items in
     let mid = c.loop-left.objects.items in
     let entries = c.loop-left.entries.items in
     let left : all_seen c.loop-left.left.now ≡ [] = none_left c.loop-left.left.now (sym c.is_empty.ensures ∙ c.loop-left-test.false) in
     let front = subst (λ (z : List Entry). BuildsFront list z entries old mid) left c.loop-left.invariant in
-    tree_refused list entries old mid front (ap is_tree (sym c.as_slice.ensures.value) ∙ sym c.are_entries.ensures ∙ c.if-not-are_entries.true)
-
-pub build_next-returns-in_err-id-in-Some : goal.build_next-returns-in_err-id-in-Some
-build_next-returns-in_err-id-in-Some t c =
-    let list = all_seen c.args.rests.now in
-    let part = all_seen c.as_slice.result.now in
-    let name = c.in-Some.name.now in
-    let group = subst (λ (z : List Rest). IsGroup name list (all_seen z)) (sym c.as_slice.ensures.value) c.in_ok-part-in-Some.ensures in
-    let p = err_from_is_err_and c.from_residual-in_err-id-in-Some.result c.from_residual-in_err-id-in-Some.ensures.1 in
-    rw (p.1, p.2) (fails_within list part _ (part_list name list part c.in-Some.ensures.0 group) c.in_err-id-in-Some.ensures)
+    record { valid = has_tree list entries old mid front c.requires }

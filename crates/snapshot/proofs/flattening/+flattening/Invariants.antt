@@ -15,6 +15,6 @@ abbrev pub invariant-add_tree-loop-entry : goal.invariant-add_tree-loop-entry
 invariant-add_tree-loop-entry g l =
     let drive = g.F.Files.drive in
     record {
-      so_far : WereRead g.F.Files.tells l.repo l.path l.id.0 l.fn.list.items l.fn.count (drive l.fn.files) (take l.entry-index l.entry-items) l.list.items l.count (drive l.files);
-      spells : Spells l.path (take l.entry-index l.entry-items) l.fn.list.items l.list.items l.count;
+      so_far : WereRead g.F.Files.tells l.repo l.path l.id.0 l.fn.found (drive l.fn.files) (take l.entry-index l.entry-items) l.found (drive l.files);
+      spells : Spells l.path (take l.entry-index l.entry-items) l.fn.found l.found;
     }

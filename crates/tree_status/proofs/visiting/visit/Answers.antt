@@ -4,11 +4,13 @@ use Rattle.places.specs.All.{Names, names_of}
 use Rattle.file_store.specs.All.{kind_at, present}
 use Rattle.faults.specs.declared.faults.Fault.{Fault}
 use Rattle.acts.proofs.Reading.{read_gives, read_refuses}
-use Rattle.tree_status.specs.Working.{item_limit, item_at}
+use Rattle.repository.specs.All.{item_limit}
+use Rattle.tree_status.specs.Working.{item_at}
 use Rattle.tree_status.specs.Walks.{MayMeet, Takes, RefusesItem}
 use Rattle.tree_status.specs.declared.found.Found.{Found}
 use Rattle.tree_status.proofs.Mapped.{read_map}
 use Rattle.tree_status.proofs.Visits.{may_meet, visit_absent, visit_many, visit_long, visit_refuses, visit_takes}
+use Rattle.tree_status.proofs.TaskPaths.{past_places}
 use Rattle.tree_status.proofs.visiting.visit.Goals as goal
 
 pub returns-in-Absent : goal.returns-in-Absent
@@ -33,10 +35,11 @@ returns-in_default-2 g c =
     let ground = present (g.F.Files.drive c.args.files.now) in
     let root = c.args.root.now in
     let path = c.args.path.now in
-    let e = c.in_ok-too_long.ensures in
+    let e = c.in_ok-too_long.ensures.fault in
     let few : nat_le item_limit c.args.found.now.count ≡ false = grind arith in
     let text = rw c.in_default-2.is at c.in_ok-place.ensures in
-    read_refuses (subst (λ (f : Fault). MayMeet root f) (sym e) (inr (inr (path, refl, refl, text)))) (omega arith)
+    let over = past_places root path c.in_ok-too_long.ensures.place c.requires text in
+    read_refuses (subst (λ (f : Fault). MayMeet root f) (sym e) (inr (inr (record { path = path; working = c.requires; is = refl; counted = refl; over = over })))) (omega arith)
     (λ t. (refl, λ is. visit_long ground root path (root ++ names_of path) c.args.kind c.args.found.now.count c.in_ok-too_long.field-0 c.in_default.not-Absent is few text e))
 
 pub returns : goal.returns

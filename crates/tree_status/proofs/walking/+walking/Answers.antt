@@ -7,14 +7,24 @@ use Rattle.file_store.specs.All.{History, present, kind_at}
 use Rattle.file_store.specs.declared.kinds.Item.{Item}
 use Rattle.acts.proofs.Reading.{read_gives, read_exits, read_after}
 use Rattle.tree_status.specs.Working.{items, item_at, fault_along}
-use Rattle.tree_status.specs.Tasks.{ArePlanned}
-use Rattle.tree_status.specs.Walks.{Went, IsAt, IsPlanned, part, within, one_of}
+use Rattle.tree_status.specs.Tasks.{ArePlanned, IsTask}
+use Rattle.tree_status.specs.Walks.{Went, IsFront, IsWorkingPath, IsAt, IsPlanned, part, within}
+use Rattle.tree_status.specs.Walks.{one_of}
 use Rattle.tree_status.proofs.Paths.{names_slash}
 use Rattle.tree_status.proofs.Mapped.{read_map, err_map}
 use Rattle.tree_status.proofs.Parts.{parts}
 use Rattle.tree_status.proofs.Covers.{Listed}
-use Rattle.tree_status.proofs.Steps.{own_went, own_fails, none_went, inside_went, inside_fails, path_short, path_longer, task_filled, task_went, task_fails, all_went}
+use Rattle.tree_status.proofs.Steps.{own_went, own_fails, none_went, inside_went, inside_fails, path_short, path_longer, task_is, task_went, task_fails, all_went}
+use Rattle.tree_status.proofs.TaskPaths.{key_filled, item_path, inside_front_of}
 use Rattle.tree_status.proofs.walking.+walking.Goals as goal
+
+pub take_task-visit-requires : goal.take_task-visit-requires
+take_task-visit-requires g t c =
+    let whole : string_bytes c.push_str.new.self ≡ c.args.front.now ++ c.args.task.now.name =
+    c.in_ok-push_str.ensures.bytes ∙ (λ i. c.in_ok-path.ensures.ok i ++ c.as_str.ensures.value i) in
+    let none = rw c.in_default.is at c.without_slash.ensures in
+    subst IsWorkingPath (sym (c.as_str-in_default.ensures.value ∙ whole))
+    (item_path c.args.front.now c.args.task.now.name c.requires.1.1.1.0 c.requires.1.1.1.1.1 (λ front e. none front (c.as_str-2.ensures.value ∙ whole ∙ e)))
 
 pub take_task-returns-in_default : goal.take_task-returns-in_default
 take_task-returns-in_default g t c =
@@ -53,7 +63,8 @@ take_task-walk-requires g t c =
     let at = rw c.in-Some-2.is at c.in_ok-place.ensures in
     let same : c.as_str-3.result.now ≡ c.in-Some.directory.now ++ slash ∷ [] = c.as_str-3.ensures.value ∙ sym c.as_str-2.ensures.value ∙ cut in
     let short : length c.as_str-3.result.now ≤ 4097 = path_short root c.in-Some.directory.now c.as_str-3.result.now same at.0 in
-    let some : 0 < length c.args.task.now.name = omega arith in
+    let some = key_filled c.args.task.now.name c.requires.1.1.1.1.1 in
+    let front : IsFront c.as_str-3.result.now = subst IsFront (sym (c.as_str-3.ensures.value ∙ whole)) (inside_front_of c.args.front.now c.args.task.now.name c.in-Some.directory.now c.requires.1.1.1.0 c.requires.1.1.1.1.1 (sym (c.as_str-2.ensures.value ∙ whole) ∙ cut)) in
     let more : length c.args.front.now < length c.as_str-3.result.now = path_longer c.args.front.now c.args.task.now.name c.as_str-3.result.now (c.as_str-3.ensures.value ∙ whole) some in
     search rules
 
@@ -84,7 +95,7 @@ walk-take_task-requires g t c =
     let split : c.in_ok-tasks.tasks.items ≡ take i tasks ++ c.task-item.result ∷ drop (i + 1) tasks =
     sym c.deref-task-items.ensures.value ∙ sym (take-append-drop i tasks) ∙ ap (λ (z : List Item). take i tasks ++ z) rest in
     let planned : ArePlanned c.in_ok-items.items.items c.in_ok-tasks.tasks.items = subst (λ (l : List Item). ArePlanned l c.in_ok-tasks.tasks.items) c.as_slice.ensures.value c.in_ok-tasks.ensures in
-    let filled : 0 < length c.task-item.result.name = task_filled c.in_ok-items.items.items c.in_ok-tasks.tasks.items (take i tasks) (drop (i + 1) tasks) c.task-item.result c.in_ok-items.ensures.ends.0.names planned split in
+    let task : IsTask c.task-item.result.name = task_is c.in_ok-items.items.items c.in_ok-tasks.tasks.items (take i tasks) (drop (i + 1) tasks) c.task-item.result c.in_ok-items.ensures.ends.0.names planned split in
     search rules
 
 pub walk-returns-in_err-take_task : goal.walk-returns-in_err-take_task

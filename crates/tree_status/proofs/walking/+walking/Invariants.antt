@@ -18,7 +18,7 @@ abbrev pub invariant-walk-loop-task : goal.invariant-walk-loop-task
 invariant-walk-loop-task g l =
     let drive = g.F.Files.drive in
     record {
-      later : (drive l.fn.files).faults ≤ (drive l.files).faults;
+      later : (drive l.files).faults ≡ (drive l.fn.files).faults;
       same : IsTrue g.F.Files.tells → (drive l.files).history ≡ (drive l.fn.files).history;
       went : IsTrue g.F.Files.tells → IsAt l.root l.place l.front
           → Went l.root (parts l.front (take l.task-index l.task-items) (items l.root (present (drive l.fn.files)))) l.fn.found l.found;

@@ -1,11 +1,14 @@
-use Rattle.std.proofs.Common.{◌≡◌, [], refl, rules}
+use Rattle.std.proofs.Common.{◌≡◌, [], refl, arith, rules}
 use Rattle.places.proofs.Grammar.{is_text-complete}
 use Rattle.file_store.specs.All.{present}
 use Rattle.acts.proofs.Reading.{read_gives, read_exits}
 use Rattle.tree_status.specs.declared.found.Found.{Found}
 use Rattle.tree_status.proofs.Mapped.{err_map}
-use Rattle.tree_status.proofs.Steps.{root_fails, root_may, root_went}
+use Rattle.tree_status.proofs.Steps.{front_nothing, root_fails, root_may, root_went}
 use Rattle.tree_status.proofs.walking.working_files.Goals as goal
+
+pub walk-requires : goal.walk-requires
+walk-requires g c = record { front = front_nothing; short = omega arith }
 
 pub returns-in_err-walk : goal.returns-in_err-walk
 returns-in_err-walk g c =

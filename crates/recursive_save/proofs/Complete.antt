@@ -1,0 +1,379 @@
+-- A save of a sound dataset is refused for nothing that the program itself has left there.
+use Rattle.std.proofs.Common.{◌≡◌, ◌⊎◌, inl, inr, ⊎_elim, ℕ, ◌+◌, Bool, true, false, cond, nat_lt, List, [], ◌∷◌, ◌++◌, length, Option, Some, None, Result, Ok, Err, refl, sym, ap, ◌∙◌, subst}
+use Rattle.std.specs.Prelude.{bytes_eq, codes, IsSome, is_some, nat_le, not, option_map, ◌&&◌}
+use Rattle.std.specs.FinMap.{entries}
+use Rattle.std.proofs.lemmas.Slice.Eq.{bytes_eq-Decides}
+use Rattle.places.specs.All.{Names, text_of, joined, is_text, longest, Ground, file_at, stands}
+use Rattle.faults.specs.declared.lines.Line.{Line}
+use Rattle.faults.specs.declared.faults.Fault.{Fault}
+use Rattle.faults.specs.declared.faults.Fault.TheVariants.{BadCommit, BadTree, Collision, Damaged}
+use Rattle.file_store.specs.All.{Round, finally, or_next, first_shut, block_of, only}
+use Rattle.file_store.specs.declared.replacing.Replacement.{Replacement}
+use Rattle.git_objects.specs.All.{Fields, IsBadAt, IsBadCommitAt, Object, is_dir, is_object_text}
+use Rattle.git_objects.specs.All.{oid, text_of_object}
+use Rattle.git_objects.specs.declared.entries.TreeEntry.{TreeEntry}
+use Rattle.git_objects.specs.declared.ids.Id.{Id}
+use Rattle.git_objects.specs.declared.objects.ObjKind.TheVariants.{Commit as CommitKind}
+use Rattle.git_objects.specs.declared.objects.ObjKind.TheVariants.{Tree as TreeKind}
+use Rattle.git_objects.proofs.Parsing.{bad_no_tree}
+use Rattle.config_text.specs.All.{PlainConfig, config_in}
+use Rattle.repository.specs.All.{Head as Led, branch_place, head_of, held_at, id_in, id_text}
+use Rattle.repository.specs.All.{large, object_body_limit, object_file_limit, object_limit}
+use Rattle.repository.specs.All.{object_of, object_place, repo_head, repo_limit, repo_of}
+use Rattle.repository.specs.All.{settings_place, tmp_place}
+use Rattle.repository.proofs.Heading.{how_read}
+use Rattle.repository.proofs.Holds.{held_is, none_of_text}
+use Rattle.acts.specs.All.{Act, Ending, Gives, Refuses, Breaks, Step, bind, each, ending_of, fold}
+use Rattle.acts.specs.All.{gives, go_on, last_of, put_act, puts, rounds_in, says, still, unless}
+use Rattle.object_store.specs.All.{IsCommitAt, IsCommitFault, IsTreeAt, IsTreeFault, body_fault}
+use Rattle.object_store.specs.All.{early_fault, fault_in, file_fault, first_fault, found_fault}
+use Rattle.object_store.specs.All.{get_fault, kind_fault as object_fault, large_file, long_fault}
+use Rattle.object_store.specs.All.{missing, missing_fault, object_text, place_in, puts_missing}
+use Rattle.object_store.specs.All.{puts_objects, puts_some, size_fault, staging}
+use Rattle.object_store.specs.declared.objects.NewObject.{NewObject}
+use Rattle.ref_store.specs.All.{branch_id, branch_of, damaged_unless, given, head_at, head_fault}
+use Rattle.ref_store.specs.All.{head_given, lead_fault, long_place, long_repo, puts_one, set_fault}
+use Rattle.ref_store.specs.All.{sets_tip, tip_at, tip_fault}
+use Rattle.ref_store.specs.declared.heads.Head.{Head}
+use Rattle.ref_store.specs.declared.heads.Head.TheVariants.{Branch, Detached}
+use Rattle.ref_store.proofs.Leading.{same_branch}
+use Rattle.snapshot.specs.All.{Dir, Empty, Item, Sub, IsFlattenFault, IsReadFault, Stands, SubsStand}
+use Rattle.snapshot.specs.All.{dir_entry, entries_of, here, leaf_entry, long, many, root_id}
+use Rattle.snapshot.specs.Flattens.{below}
+use Rattle.snapshot.specs.declared.entries.Entry.{Entry}
+use Rattle.snapshot.specs.declared.entries.Leaf.{Leaf}
+use Rattle.snapshot.specs.declared.entries.Leaf.TheVariants.{Git, Link, Pin}
+use Rattle.snapshot.proofs.Faultless.{EachSub-parts, cut_at}
+use Rattle.snapshot.proofs.Standing.{no_leaf_is_dir, tree_same}
+use Rattle.dataset.specs.All.{IsDataset, IsSoundAt, IsWhole, Sound}
+use Rattle.dataset.proofs.Commits.{tree_full}
+use Rattle.dataset.proofs.Ids.{oid_is_id}
+use Rattle.tree_status.specs.All.{Directory, ItemKind, Nested, Working, directory_of, fault_along}
+use Rattle.tree_status.specs.All.{git_file_limit, item_fault, item_limit, items, walk_fault, working}
+use Rattle.tree_status.specs.All.{kind_fault as item_kind_fault}
+use Rattle.recursive_save.specs.Changes.{WorkFile, added}
+use Rattle.recursive_save.specs.Saved.{IsSoundEnding, IsSoundRefusal, SaveIsComplete}
+use Rattle.recursive_save.specs.Saving.{IsRead, IsSave, IsUnread, SavePlan, blobs_limit, clash_fault}
+use Rattle.recursive_save.specs.Saving.{clash_with, clean, line_fault, pin_fault, plan_fault, saved}
+use Rattle.recursive_save.specs.Saving.{saves, saves_nothing, says_all, settings_fault, settings_in}
+use Rattle.recursive_save.specs.Saving.{settings_limit, sum_fault, unplanned, unread, view_fault}
+use Rattle.recursive_save.specs.Saving.{writes}
+use Rattle.recursive_save.specs.declared.wishes.SaveWish.{SaveWish}
+use Rattle.recursive_save.proofs.SaveLeft.{head_kept}
+
+-- a fault, if any, is one for which a sound dataset may be refused
+abbrev Soundly : Option Fault → Type 0
+Soundly None = Unit {0}
+Soundly (Some fault) = IsSoundRefusal fault
+
+of_soundly : (o : Option Fault) (fault : Fault) → Soundly o → o ≡ Some fault → IsSoundRefusal fault
+of_soundly o fault h e = subst Soundly e h
+
+or_sound : (a b : Option Fault) → Soundly a → Soundly b → Soundly (or_next a b)
+or_sound None b h k = k
+or_sound (Some f) b h k = h
+
+cond_sound : (b : Bool) (x y : Option Fault) → Soundly x → Soundly y → Soundly (cond b x y)
+cond_sound true x y h k = h
+cond_sound false x y h k = k
+
+long_sound : (place : Names) → Soundly (long_place place)
+long_sound place = cond_sound (nat_lt longest (length (text_of place))) (large place) None tt tt
+
+-- HEAD AND ITS BRANCH
+module _ (repo : Names) (g : Ground) (head : Led) (leads : head_of g repo ≡ Some head) where
+  -- the branch's file names an id
+  branch_sound : (name : List ℕ) → name ≡ name → Some name ≡ head.branch → Soundly (damaged_unless (branch_place repo name) (branch_id repo name g))
+  branch_sound name same is = elim (how_read (λ n. file_at g (branch_place repo n)) (file_at g (repo_head repo)) head leads) [
+    | inl plain ↦ absurd (cc (is ∙ plain.branch))
+    | inr on ↦
+        let one : name ≡ on.name = cc (is ∙ on.branch) in
+        let stands : file_at g (branch_place repo name) ≡ Some on.tip = ap (λ (n : List ℕ). file_at g (branch_place repo n)) one ∙ on.there in
+        subst (λ (o : Option (List ℕ)). Soundly (damaged_unless (branch_place repo name) o)) (sym (ap (given id_in) stands ∙ on.leads)) tt
+  ]
+
+  abbrev tip_by : Option Head → Option Fault
+  tip_by o = or_next (or_next (long_place (repo_head repo)) (damaged_unless (repo_head repo) o)) (lead_fault repo g o)
+
+  by_head : (o : Option Head) → option_map branch_of o ≡ Some head.branch → Soundly (tip_by o)
+  by_head None e = absurd (cc e)
+  by_head (Some (Branch name)) e =
+      let is : Some name ≡ head.branch = cc e in
+      or_sound (or_next (long_place (repo_head repo)) None) (lead_fault repo g (Some (Branch name)))
+      (or_sound (long_place (repo_head repo)) None (long_sound (repo_head repo)) tt)
+      (or_sound (long_place (branch_place repo name)) (damaged_unless (branch_place repo name) (branch_id repo name g)) (long_sound (branch_place repo name)) (branch_sound name refl is))
+  by_head (Some (Detached id)) e =
+      or_sound (or_next (long_place (repo_head repo)) None) None (or_sound (long_place (repo_head repo)) None (long_sound (repo_head repo)) tt) tt
+
+  tip_sound : Soundly (tip_fault repo g)
+  tip_sound = by_head (head_at repo g) (same_branch repo g head leads)
+
+  -- and so where HEAD is the same
+  head_sound : (h : Ground) → head_at repo h ≡ head_at repo g → Soundly (head_fault repo h)
+  head_sound h same =
+      subst (λ (o : Option Head). Soundly (or_next (long_place (repo_head repo)) (damaged_unless (repo_head repo) o))) (sym same) (by (head_at repo g) (same_branch repo g head leads))
+    where
+      by : (o : Option Head) → option_map branch_of o ≡ Some head.branch → Soundly (or_next (long_place (repo_head repo)) (damaged_unless (repo_head repo) o))
+      by None e = absurd (cc e)
+      by (Some one) e = or_sound (long_place (repo_head repo)) None (long_sound (repo_head repo)) tt
+
+-- OBJECTS
+body_sound : (place : Names) (o : Object) → Soundly (body_fault place (Some o))
+body_sound place o = cond_sound (nat_lt object_body_limit (length o.body)) (large_file place (length o.body)) None tt tt
+
+module _ (repo : Names) (g : Ground) where
+  -- what is held is refused only for its size
+  get_sound : (id : List ℕ) (o : Object) → held_at g repo id ≡ Some o → Soundly (get_fault repo id g)
+  unfolding get_fault
+  get_sound id o held = cond_sound (nat_lt object_limit (length (text_of repo))) (large repo) _ tt (by (file_at g (object_place repo id)) held)
+    where
+      by : (file : Option (List ℕ)) → object_of id file ≡ Some o → Soundly (file_fault (object_place repo id) id file)
+      by None e = tt
+      by (Some text) e =
+          or_sound (size_fault (object_place repo id) (Some text)) (body_fault (object_place repo id) (object_of id (Some text)))
+          (cond_sound (nat_lt object_file_limit (length text)) (large_file (object_place repo id) (length text)) None tt tt)
+          (subst (λ (z : Option Object). Soundly (body_fault (object_place repo id) z)) (sym e) (body_sound (object_place repo id) o))
+
+  commit_sound : (id : List ℕ) (fields : Fields) (fault : Fault) → IsCommitAt repo id g fields → IsCommitFault repo id g fault → IsSoundRefusal fault
+  commit_sound id fields (BadCommit other at) commit (is, bad) =
+      let same : Some (record { kind = CommitKind; body = bad.body }) ≡ Some (record { kind = CommitKind; body = commit.body }) = sym bad.held ∙ commit.held in
+      let objects : record { kind = CommitKind; body = bad.body } ≡ record { kind = CommitKind; body = commit.body } = cc same in
+      let bodies : bad.body ≡ commit.body = ap (λ (o : Object). o.body) objects in
+      absurd ((subst (λ (z : List ℕ). IsBadCommitAt z at) bodies bad.bad).none fields commit.text)
+  commit_sound id fields fault commit fails =
+      of_soundly (object_fault repo id CommitKind g) fault (or_sound (get_fault repo id g) (missing_fault id CommitKind (held_at g repo id)) (get_sound id _ commit.held)
+      (subst (λ (z : Option Object). Soundly (missing_fault id CommitKind z)) (sym commit.held) tt)) fails
+
+  tree_sound : (id : List ℕ) (es : List TreeEntry) (fault : Fault) → IsTreeAt repo id g es → IsTreeFault repo id g fault → IsSoundRefusal fault
+  tree_sound id es (BadTree other at) tree (is, bad) =
+      let same : Some (record { kind = TreeKind; body = bad.body }) ≡ Some (record { kind = TreeKind; body = tree.body }) = sym bad.held ∙ tree.held in
+      let objects : record { kind = TreeKind; body = bad.body } ≡ record { kind = TreeKind; body = tree.body } = cc same in
+      let bodies : bad.body ≡ tree.body = ap (λ (o : Object). o.body) objects in
+      absurd (bad_no_tree tree.body at es (subst (λ (z : List ℕ). IsBadAt z at) bodies bad.bad) tree.text)
+  tree_sound id es fault tree fails =
+      of_soundly (object_fault repo id TreeKind g) fault (or_sound (get_fault repo id g) (missing_fault id TreeKind (held_at g repo id)) (get_sound id _ tree.held)
+      (subst (λ (z : Option Object). Soundly (missing_fault id TreeKind z)) (sym tree.held) tt)) fails
+
+  -- READINGS of a directory that stands
+  first_sub : (dir : Dir) (e : TreeEntry) (after : List TreeEntry) → entries_of dir ≡ e ∷ after → is_dir e.mode ≡ true → SubsStand repo g dir → (sub : Dir) × Stands repo e.id.0 g sub
+  first_sub Empty e after same is subs = absurd (cc same)
+  first_sub (Item n l m) e after same is subs =
+      let head : leaf_entry n l ≡ e = cc same in
+      absurd (no_leaf_is_dir l (ap (λ (z : TreeEntry). is_dir z.mode) head ∙ is))
+  first_sub (Sub n s m) e after same is subs =
+      let head : dir_entry n (record { 0 = root_id s }) ≡ e = cc same in
+      (s, subst (λ (z : TreeEntry). Stands repo z.id.0 g s) head (record { tree = subs.0; subs = subs.1 }))
+
+  read_sound : (count : ℕ) (path id : List ℕ) (fault : Fault) (dir : Dir) → IsReadFault repo g count path id fault → Stands repo id g dir → IsSoundRefusal fault
+  read_sound count path id fault dir (here fails) stands = tree_sound id (entries_of dir) fault stands.tree fails
+  read_sound count path id _ dir (many e at) stands = tt
+  read_sound count path id _ dir (long e reached at room large_path) stands = tt
+  read_sound count path id fault dir (below e reached at room short is fails) stands =
+      let same = tree_same repo g id (entries_of dir) (at.before ++ e ∷ at.after) stands.tree at.tree in
+      let cut = cut_at dir at.before (e ∷ at.after) same in
+      let subs = EachSub-parts (λ sub. IsTreeAt repo (root_id sub) g (entries_of sub)) cut.front cut.back (subst (SubsStand repo g) cut.joins stands.subs) in
+      let sub = first_sub cut.back e at.after cut.last is subs.1 in
+      read_sound (reached + 1) _ e.id.0 fault sub.0 fails sub.1
+
+  -- a whole commit is refused only for a limit
+  flatten_sound : (commit : List ℕ) (fault : Fault) → IsWhole repo commit g → IsFlattenFault repo commit g fault → IsSoundRefusal fault
+  flatten_sound commit fault whole (inl fails) =
+      let own = whole.each commit whole.has in
+      commit_sound commit own.fields fault own.commit fails
+  flatten_sound commit fault whole (inr (fields, there, read, fails)) =
+      let full = tree_full repo g commit fields there whole in
+      read_sound 0 [] fields.tree.0 fault full.dir fails full.stands
+
+-- WORKING FILES, and pins
+pin_sound : (list : List Entry) → Soundly (pin_fault list)
+pin_sound [] = tt
+pin_sound (entry ∷ list) = by entry.path entry.leaf (pin_sound list)
+  where
+    by : (path : List ℕ) (leaf : Leaf) → Soundly (pin_fault list) → Soundly (pin_fault (record { path = path; leaf = leaf } ∷ list))
+    by path (Git id exec) rest = rest
+    by path (Link id) rest = rest
+    by path (Pin id) rest = tt
+
+item_sound : (root : Names) (path : List ℕ) (kind : ItemKind) → Soundly (item_fault root path kind)
+item_sound root path Directory = cond_sound (is_text (joined root path)) None _ tt tt
+item_sound root path Nested = cond_sound (is_text (joined root path)) (item_kind_fault path Nested) _ tt tt
+item_sound root path (Working bytes) = cond_sound (is_text (joined root path)) (item_kind_fault path (Working bytes)) _ (cond_sound (nat_le (length bytes) git_file_limit) None _ tt tt) tt
+
+along_sound : (root : Names) (count : ℕ) (list : List (List ℕ × ItemKind)) → Soundly (fault_along root count list)
+along_sound root count [] = tt
+along_sound root count (item ∷ rest) =
+    cond_sound (nat_le item_limit count) _ (or_next (item_fault root item.0 item.1) (fault_along root (count + 1) rest)) tt
+    (or_sound (item_fault root item.0 item.1) (fault_along root (count + 1) rest) (item_sound root item.0 item.1) (along_sound root (count + 1) rest))
+
+view_sound : (root : Names) (g : Ground) (old : List Entry) → Soundly (view_fault root g old)
+view_sound root g old = or_sound (pin_fault old) (walk_fault root g) (pin_sound old) (along_sound root 0 (entries (items root g)))
+
+-- THE PLAN
+sum_sound : (before : ℕ) (files : List WorkFile) → Soundly (sum_fault before files)
+sum_sound before [] = tt
+sum_sound before (file ∷ files) = cond_sound (nat_lt blobs_limit (before + length file.1)) _ (sum_fault (before + length file.1) files) tt (sum_sound (before + length file.1) files)
+
+settings_sound : (place : Names) (text : List ℕ) (config : PlainConfig) → config_in text ≡ Ok config → Soundly (settings_in place (Some text))
+settings_sound place text config is = cond_sound (nat_lt settings_limit (length text)) _ (line_fault place (config_in text)) tt (subst (λ (r : Result PlainConfig ℕ). Soundly (line_fault place r)) (sym is) tt)
+
+clash_with_sound : (before : List NewObject) (object : NewObject) → Soundly (clash_with before object)
+clash_with_sound [] object = tt
+clash_with_sound (one ∷ more) object =
+    cond_sound (bytes_eq (oid one.kind one.body) (oid object.kind object.body) && not (bytes_eq (object_text one) (object_text object))) _ (clash_with more object) tt (clash_with_sound more object)
+
+clash_sound : (before objects : List NewObject) → Soundly (clash_fault before objects)
+clash_sound before [] = tt
+clash_sound before (object ∷ objects) = or_sound (clash_with before object) (clash_fault (before ++ object ∷ []) objects) (clash_with_sound before object) (clash_sound (before ++ object ∷ []) objects)
+
+-- STEPS
+abbrev EndsSoundly : {V : Type 0} → Act V → Type 0
+EndsSoundly act = IsSoundEnding act.ending
+
+ending_sound : (o : Option Fault) → Soundly o → IsSoundEnding (ending_of o)
+ending_sound None h = tt
+ending_sound (Some fault) h = h
+
+module _ {V W : Type 0} (first : Step V) (next : V → Step W) (g : Ground) where
+  bind_sound : EndsSoundly (first g) → ((v : V) → EndsSoundly (next v (last_of (first g) g))) → EndsSoundly (bind first next g)
+  unfolding bind
+  bind_sound one more = by (first g).ending one
+    where
+      by : (ending : Ending V) → IsSoundEnding ending → EndsSoundly (go_on (first g) ending g next)
+      by (Gives v) h = more v
+      by (Refuses fault) h = h
+      by (Breaks fault) h = h
+
+unless_sound : (fault : Ground → Option Fault) (g : Ground) → Soundly (fault g) → EndsSoundly (unless fault g)
+unfolding unless
+unless_sound fault g h = ending_sound (fault g) h
+
+puts_sound : (list : List Replacement) (g : Ground) → EndsSoundly (puts list g)
+unfolding puts
+puts_sound list g = by (first_shut list g) (block_of list g)
+  where
+    by : (at_once : Bool) (at : Option Names) → EndsSoundly (put_act list at_once at)
+    by true (Some at) = tt
+    by false (Some at) = tt
+    by at_once None = tt
+
+some_sound : (list : List Replacement) (g : Ground) → EndsSoundly (puts_some list g)
+unfolding gives
+some_sound [] g = tt
+some_sound (r ∷ list) g = puts_sound (r ∷ list) g
+
+lines_sound : (lines : List Line) (g : Ground) → EndsSoundly (says_all lines g)
+unfolding fold bind says gives
+lines_sound [] g = tt
+lines_sound (line ∷ lines) g = lines_sound lines g
+
+nothing_sound : (g : Ground) → EndsSoundly (saves_nothing g)
+unfolding saves_nothing bind says gives
+nothing_sound g = tt
+
+-- SOUND GROUNDS
+module _ (root : Names) (g : Ground) (at : IsSoundAt root g) where
+  abbrev repo : Names
+  repo = repo_of root
+
+  led : (o : Option Led) (parent : List ℕ) → o ≡ Some at.heads.head → option_map (λ (h : Led). h.id) o ≡ Some parent → at.heads.head.id ≡ parent
+  led o parent is e =
+      let both : Some at.heads.head.id ≡ Some parent = sym (ap (option_map (λ (h : Led). h.id)) is) ∙ e in
+      cc both
+
+  whole_at : (parent : List ℕ) → option_map (λ (h : Led). h.id) (head_of g repo) ≡ Some parent → IsWhole repo parent g
+  whole_at parent e = subst (λ (i : List ℕ). IsWhole repo i g) (led (head_of g repo) parent at.heads.leads e) at.heads.whole
+
+  unread_sound : (fault : Fault) → IsUnread root g fault → IsSoundRefusal fault
+  unread_sound fault (inl tip) = of_soundly (tip_fault repo g) fault (tip_sound repo g at.heads.head at.heads.leads) tip
+  unread_sound fault (inr (parent, tip, inl fails)) = flatten_sound repo g parent fault (whole_at parent tip.1) fails
+  unread_sound fault (inr (parent, tip, inr (old, flat, why))) = of_soundly (view_fault root g old) fault (view_sound root g old) why
+
+  plan_sound : (old : List Entry) → Soundly (plan_fault root g old)
+  plan_sound old =
+      or_sound (settings_fault root g) (sum_fault 0 (added old (working root g)))
+      (subst (λ (file : Option (List ℕ)). Soundly (settings_in (settings_place root) file)) (sym at.settings.stands) (settings_sound (settings_place root) at.settings.text at.settings.valid.0 at.settings.valid.1))
+      (sum_sound 0 (added old (working root g)))
+
+  -- at an object's place stands an object with its id
+  found_sound : (x : NewObject) (bytes : List ℕ) (o : Object) → file_at g (place_in repo x) ≡ Some bytes → held_at g repo (oid x.kind x.body) ≡ Some o → Soundly (found_fault repo x bytes)
+  unfolding found_fault oid
+  found_sound x bytes o file held =
+      let is = held_is g repo (oid x.kind x.body) o held in
+      let text : bytes ≡ text_of_object o.kind o.body = cc (sym file ∙ is.stands) in
+      let known : is_object_text bytes ≡ true = by (is_object_text bytes) refl in
+      let digest = (bytes_eq-Decides (oid o.kind o.body) (oid x.kind x.body)).1 is.named in
+      subst (λ (z : List ℕ). Soundly (found_fault repo x z)) (sym text)
+      (cond_sound (bytes_eq (text_of_object o.kind o.body) (object_text x)) None _ tt
+      (subst (λ b. Soundly (cond b (cond (bytes_eq (oid o.kind o.body) (oid x.kind x.body)) (Some (Collision (oid x.kind x.body))) (Some (Damaged (place_in repo x)))) (Some (Damaged (place_in repo x))))) (sym (ap is_object_text (sym text) ∙ known))
+      (subst (λ b. Soundly (cond b (Some (Collision (oid x.kind x.body))) (Some (Damaged (place_in repo x))))) (sym digest) tt)))
+    where
+      by : (b : Bool) → is_object_text bytes ≡ b → is_object_text bytes ≡ true
+      by true e = e
+      by false e = absurd (cc (sym held ∙ ap (object_of (oid x.kind x.body)) file ∙ none_of_text (oid x.kind x.body) bytes e))
+
+  some_held : (o : Option Object) → IsSome o → (one : Object) × (o ≡ Some one)
+  some_held None h = absurd (cc h)
+  some_held (Some one) h = (one, refl)
+
+  first_sound : (objects : List NewObject) → Soundly (first_fault repo objects g)
+  first_sound [] = tt
+  first_sound (x ∷ objects) = or_sound (fault_in repo x (file_at g (place_in repo x))) (first_fault repo objects g) (by (file_at g (place_in repo x)) refl) (first_sound objects)
+    where
+      by : (file : Option (List ℕ)) → file_at g (place_in repo x) ≡ file → Soundly (fault_in repo x file)
+      by None e = tt
+      by (Some bytes) e =
+          let held = some_held (held_at g repo (oid x.kind x.body)) (at.objects.named (oid x.kind x.body) (oid_is_id x.kind x.body) (ap (λ (o : Option (List ℕ)). is_some o) e)) in
+          found_sound x bytes held.0 e held.1
+
+  long_objects : (objects : List NewObject) → Soundly (long_fault repo objects)
+  long_objects [] = tt
+  long_objects (x ∷ objects) = cond_sound (nat_lt repo_limit (length (text_of repo))) (large repo) None tt tt
+
+  early_sound : (objects : List NewObject) → Soundly (early_fault repo objects g)
+  early_sound [] = tt
+  early_sound (x ∷ objects) =
+      cond_sound (nat_lt object_limit (length (text_of repo))) (large repo) (or_next (first_fault repo (x ∷ objects) g) (long_fault repo (missing repo (x ∷ objects) g))) tt
+      (or_sound (first_fault repo (x ∷ objects) g) (long_fault repo (missing repo (x ∷ objects) g)) (first_sound (x ∷ objects)) (long_objects (missing repo (x ∷ objects) g)))
+
+  put_sound : (objects : List NewObject) → EndsSoundly (puts_objects repo objects g)
+  unfolding puts_objects
+  put_sound objects =
+      bind_sound (unless (early_fault repo objects)) (λ t. puts_missing repo objects) g (unless_sound (early_fault repo objects) g (early_sound objects))
+      (λ v. some_sound (staging repo 0 (missing repo objects (last_of (unless (early_fault repo objects) g) g))) (last_of (unless (early_fault repo objects) g) g))
+
+  set_sound : (h : Ground) → head_at repo h ≡ head_at repo g → Soundly (set_fault repo h)
+  set_sound h same =
+      or_sound (head_fault repo h) (long_repo repo) (head_sound repo g at.heads.head at.heads.leads h same)
+      (cond_sound (nat_lt repo_limit (length (text_of repo))) (large repo) None tt tt)
+
+  sets_sound : (id : List ℕ) (h : Ground) → head_at repo h ≡ head_at repo g → EndsSoundly (sets_tip repo id h)
+  unfolding sets_tip
+  sets_sound id h same =
+      bind_sound (unless (set_fault repo)) (λ t k. puts_one repo (tip_at repo k) (id_text id) k) h (unless_sound (set_fault repo) h (set_sound h same))
+      (λ v. puts_sound (only (tmp_place repo 0) (tip_at repo (last_of (unless (set_fault repo) h) h)) (id_text id)) (last_of (unless (set_fault repo) h) h))
+
+  module _ (plan : SavePlan) where
+    writes_sound : EndsSoundly (writes root plan g)
+    unfolding gives
+    writes_sound =
+        bind_sound (puts_objects repo plan.objects) (λ t. bind (sets_tip repo plan.commit) (λ u. bind (says_all plan.lines) (λ w. gives (Some (record { 0 = plan.commit }))))) g (put_sound plan.objects)
+        (λ v. bind_sound (sets_tip repo plan.commit) (λ u. bind (says_all plan.lines) (λ w. gives (Some (record { 0 = plan.commit })))) (last_of (puts_objects repo plan.objects g) g) (sets_sound plan.commit (last_of (puts_objects repo plan.objects g) g) (ap (given head_given) (head_kept root plan g)))
+        (λ u. bind_sound (says_all plan.lines) (λ w. gives (Some (record { 0 = plan.commit }))) _ (lines_sound plan.lines _) (λ w. tt)))
+
+    saves_sound : EndsSoundly (saves root plan g)
+    unfolding saves unless bind
+    saves_sound = by (clash_fault [] plan.objects) (clash_sound [] plan.objects)
+      where
+        by : (o : Option Fault) → Soundly o → EndsSoundly (go_on (still (ending_of o)) (ending_of o) g (λ t. writes root plan))
+        by (Some fault) h = h
+        by None h = writes_sound
+
+  -- THE SAVE
+  save_ends : (wish : SaveWish) (act : Act (Option Id)) → IsSave root wish g act → EndsSoundly act
+  save_ends wish _ (unread fault why) = unread_sound fault why
+  save_ends wish _ (clean parent old read same) = nothing_sound g
+  save_ends wish _ (unplanned parent old fault read changed why) = of_soundly (plan_fault root g old) fault (plan_sound old) why
+  save_ends wish _ (saved parent old plan read changed none planned) = saves_sound plan
+
+pub is_complete : SaveIsComplete
+is_complete root wish g act sound dataset is = save_ends root g (sound root dataset) wish act is
