@@ -129,15 +129,15 @@ module _ (telling : Telling) (command : Command) (lines : List Line) (old new : 
     told = λ t. elim (acts.told t) [
       | inl halt ↦ inl (halt_ends telling.heard lines old new r halt s report)
       | inr one ↦ inr (
-          one.0,
-          record {
-            own = one.1;
-            ends = act_ends telling.heard one.0 lines old new r one.2.ends one.2.came s report;
-            moments = follows.leaves one.0 one.1 one.2.moments;
-            sound = follows.sound one.0 one.1;
-            complete = soundly t one.0 one.1 one.2.ends s report;
-          },
-        )
+        one.0,
+        record {
+          own = one.1;
+          ends = act_ends telling.heard one.0 lines old new r one.2.ends one.2.came s report;
+          moments = follows.leaves one.0 one.1 one.2.moments;
+          sound = follows.sound one.0 one.1;
+          complete = soundly t one.0 one.1 one.2.ends s report;
+        },
+      )
     ];
     one = follows.one;
   }

@@ -14,8 +14,10 @@ use crate::status::Status;
 use crate::words::{begins_create, dir_of, message_of, message_word, misread_at, root_of};
 use faults::{Fault, Line, Trouble};
 use file_store::{Files, Place, Sink};
-use recursive_save::{SaveWish, create, create_keeps_sound, save, save_is_complete};
-use recursive_save::{save_is_one, save_keeps_sound, save_remains};
+use recursive_save::{
+    SaveWish, create, create_keeps_sound, save, save_is_complete, save_is_one, save_keeps_sound,
+    save_remains,
+};
 use std::alloc::Global;
 
 // `create` of a word.
