@@ -17,6 +17,7 @@ use Rattle.git_objects.specs.declared.objects.ObjKind.TheVariants.{Commit as Com
 use Rattle.git_objects.specs.declared.objects.ObjKind.TheVariants.{Tree as TreeKind}
 use Rattle.git_objects.proofs.Parsing.{bad_no_tree}
 use Rattle.config_text.specs.All.{PlainConfig, config_in}
+use Rattle.repository.specs.All.{item_limit}
 use Rattle.repository.specs.All.{Head as Led, branch_place, head_of, held_at, id_in, id_text}
 use Rattle.repository.specs.All.{large, object_body_limit, object_file_limit, object_limit}
 use Rattle.repository.specs.All.{object_of, object_place, repo_head, repo_limit, repo_of}
@@ -49,7 +50,7 @@ use Rattle.dataset.specs.All.{IsDataset, IsSoundAt, IsWhole, Sound}
 use Rattle.dataset.proofs.Commits.{tree_full}
 use Rattle.dataset.proofs.Ids.{oid_is_id}
 use Rattle.tree_status.specs.All.{Directory, ItemKind, Nested, Working, directory_of, fault_along}
-use Rattle.tree_status.specs.All.{git_file_limit, item_fault, item_limit, items, walk_fault, working}
+use Rattle.tree_status.specs.All.{git_file_limit, item_fault, items, walk_fault, working}
 use Rattle.tree_status.specs.All.{kind_fault as item_kind_fault}
 use Rattle.recursive_save.specs.Changes.{WorkFile, added}
 use Rattle.recursive_save.specs.Saved.{IsSoundEnding, IsSoundRefusal, SaveIsComplete}
