@@ -1,10 +1,10 @@
 -- What a sink took of a text.
-use Rattle.std.proofs.Common.{ℕ, Bool, List, Result, Ok, Err, inl, inr, arith}
+use Rattle.std.proofs.Common.{◌≡◌, ℕ, Bool, List, Result, Ok, Err, inl, inr, sym, subst}
 use Rattle.std.specs.Prelude.{IsTrue}
-use Rattle.file_store.specs.All.{CountsBoth, IsLater, Tape, WholeEnds}
+use Rattle.file_store.specs.All.{CountsBoth, Tape, WholeEnds}
 use Rattle.file_store.specs.declared.errors.SinkErr.{SinkErr}
 use Rattle.file_store.specs.declared.errors.SinkErr.TheVariants.{Failed, NoMemory}
-use Rattle.datalad_cli.specs.Reports.{OutputCounts, TookText, WasUnhindered}
+use Rattle.datalad_cli.specs.Reports.{HasCounted, OutputCounts, TookText, WasUnhindered}
 use Rattle.datalad_cli.specs.declared.status.Status.{Status}
 use Rattle.datalad_cli.specs.declared.status.Status.TheVariants.{Done, Refused, Usage}
 use Rattle.datalad_cli.specs.declared.status.Status.TheVariants.{Device, CommandFailed}
@@ -16,11 +16,11 @@ told_text tells text old new (Ok _) counts h told = inl (h told)
 told_text tells text old new (Err Failed) counts h told = inr (inl counts.faults, h told)
 told_text tells text old new (Err NoMemory) counts h told = inr (inr counts.wants, h told)
 
--- no count falls, whatever comes of a text
-pub none_falls : (old new : Tape) (r : Result (Unit {0}) SinkErr) → CountsBoth old new r → IsLater old new
-none_falls old new (Ok _) counts = record { faults = omega (arith, counts.faults); wants = omega (arith, counts.wants) }
-none_falls old new (Err Failed) counts = record { faults = omega (arith, counts.faults); wants = omega (arith, counts.wants) }
-none_falls old new (Err NoMemory) counts = record { faults = omega (arith, counts.faults); wants = omega (arith, counts.wants) }
+-- each count stands or rose, whatever comes of a text
+pub counted : (old new : Tape) (r : Result (Unit {0}) SinkErr) → CountsBoth old new r → HasCounted old new
+counted old new (Ok _) counts = record { faults = inl counts.faults; wants = inl counts.wants }
+counted old new (Err Failed) counts = record { faults = inr counts.faults; wants = inl counts.wants }
+counted old new (Err NoMemory) counts = record { faults = inl counts.faults; wants = inr counts.wants }
 
 -- where neither count rose, the counts fit any status
 pub unhindered : (s : Status) {old new : Tape} → WasUnhindered old new → OutputCounts s old new
@@ -28,5 +28,12 @@ unhindered Done none = none
 unhindered (Refused fault) none = none
 unhindered (Usage at) none = none
 unhindered (CommandFailed got) none = none
-unhindered Device none = record { faults = omega (arith, none.faults); wants = omega (arith, none.wants) }
-unhindered StatusNoMemory none = record { faults = omega (arith, none.faults); wants = omega (arith, none.wants) }
+unhindered Device none = record { faults = inl none.faults; wants = inl none.wants }
+unhindered StatusNoMemory none = record { faults = inl none.faults; wants = inl none.wants }
+
+-- a failure's status asks no more of them
+pub at_device : (s : Status) {old new : Tape} → s ≡ Device → HasCounted old new → OutputCounts s old new
+at_device s {old} {new} is counts = subst (λ (t : Status). OutputCounts t old new) (sym is) counts
+
+pub at_memory : (s : Status) {old new : Tape} → s ≡ StatusNoMemory → HasCounted old new → OutputCounts s old new
+at_memory s {old} {new} is counts = subst (λ (t : Status). OutputCounts t old new) (sym is) counts

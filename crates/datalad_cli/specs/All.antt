@@ -16,10 +16,11 @@ pub use Rattle.datalad_cli.specs.Ends.{Telling, WasCutOff, WentAs, World}
 pub use Rattle.datalad_cli.specs.Ends.{ending_text, telling_of, world_of}
 pub use Rattle.datalad_cli.specs.Finding.{head_within, is_root, root_up, stands_within}
 unfoldable pub use Rattle.datalad_cli.specs.Finding.{root_at}
-pub use Rattle.datalad_cli.specs.Reports.{Failure, Heard, OutputCounts, RefusalEnds, ReportEnds}
-pub use Rattle.datalad_cli.specs.Reports.{Says, SaysPart, SomeRose, Tapes, TookPart, TookText}
-pub use Rattle.datalad_cli.specs.Reports.{UsageEnds, WasCutShort, WasHindered, WasUnhindered}
-pub use Rattle.datalad_cli.specs.Reports.{of_device, of_memory, outcome_text}
+pub use Rattle.datalad_cli.specs.Reports.{Failure, HasCounted, Heard, OutputCounts, RefusalEnds}
+pub use Rattle.datalad_cli.specs.Reports.{ReportEnds, Says, SaysPart, SomeRose, StandsOrRose}
+pub use Rattle.datalad_cli.specs.Reports.{Tapes, TookPart, TookText, UsageEnds, WasCutShort}
+pub use Rattle.datalad_cli.specs.Reports.{WasHindered, WasUnhindered, of_device, of_memory}
+pub use Rattle.datalad_cli.specs.Reports.{outcome_text}
 pub use Rattle.datalad_cli.specs.Words.{after_create, after_message, after_option, after_save}
 pub use Rattle.datalad_cli.specs.Words.{begins_create, dir_word, leads, message_word}
 unfoldable pub use Rattle.datalad_cli.specs.Words.{is_place, may_be_made, message_of, misread}

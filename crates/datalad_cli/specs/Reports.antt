@@ -1,7 +1,7 @@
 -- How the texts of a call are printed.
 use Rattle.std.specs.Prelude.{◌≡◌, ◌⊎◌, ℕ, ◌≤◌, Bool, true, false, IsTrue, List, [], ◌++◌, length}
 use Rattle.std.specs.Prelude.{take, Result, Ok, Err}
-use Rattle.file_store.specs.All.{IsLater, Rose, Tape}
+use Rattle.file_store.specs.All.{Rose, Tape}
 use Rattle.faults.specs.All.{fault_text}
 use Rattle.faults.specs.declared.lines.Line.{Line}
 use Rattle.faults.specs.declared.faults.Fault.{Fault}
@@ -42,6 +42,15 @@ pub record WasUnhindered (old new : Tape) : Type 0 where
   pub faults : new.faults ≡ old.faults
   pub wants : new.wants ≡ old.wants
 
+-- A count stands or rose.
+abbrev pub StandsOrRose : ℕ → ℕ → Type 0
+StandsOrRose before after = (after ≡ before) ⊎ Rose before after
+
+-- Each count of an output stands or rose.
+pub record HasCounted (old new : Tape) : Type 0 where
+  pub faults : StandsOrRose old.faults new.faults
+  pub wants : StandsOrRose old.wants new.wants
+
 -- The counts of an output by the status: neither rose, unless the status is for a failure. What
 -- comes of the text of a failure changes the status no more.
 abbrev pub OutputCounts : Status → Tape → Tape → Type 0
@@ -49,8 +58,8 @@ OutputCounts Done old new = WasUnhindered old new
 OutputCounts (Refused fault) old new = WasUnhindered old new
 OutputCounts (Usage at) old new = WasUnhindered old new
 OutputCounts (CommandFailed got) old new = WasUnhindered old new
-OutputCounts Device old new = IsLater old new
-OutputCounts NoMemory old new = IsLater old new
+OutputCounts Device old new = HasCounted old new
+OutputCounts NoMemory old new = HasCounted old new
 
 -- An output took a text whole; or it failed or found no memory, and took a first part.
 abbrev pub TookText : Tape → Tape → List ℕ → Type 0

@@ -1,9 +1,8 @@
 // Printing what came of a call: the result lines, then the text of the ending.
 ghost use Rattle.std.specs.Prelude.{◌≡◌, IsTrue, IfOk, string_bytes};
 ghost use Rattle.faults.specs.All.{line_text as line_of};
-ghost use Rattle.file_store.specs.All.{IsLater};
 ghost use Rattle.datalad_cli.specs.Answer.{lines_text as lines_of, device_text, memory_text, usage_text as usage_of};
-ghost use Rattle.datalad_cli.specs.Reports.{TookText, OutputCounts, UsageEnds, RefusalEnds, ReportEnds};
+ghost use Rattle.datalad_cli.specs.Reports.{HasCounted, TookText, OutputCounts, UsageEnds, RefusalEnds, ReportEnds};
 ghost use Rattle.datalad_cli.specs.declared.status.Status.TheVariants.{Device, NoMemory};
 
 use crate::status::Status;
@@ -40,7 +39,7 @@ fn usage_text(alloc: Global, at: u64) -> Result<String, AllocError>
 
 // The ending where a device failed. What comes of its text changes nothing any more.
 fn failed<S: Sink>(sink: &mut S) -> Status
-    ensures later { IsLater (S.tape sink.old) (S.tape sink.new) }
+    ensures later { HasCounted (S.tape sink.old) (S.tape sink.new) }
     ensures status { result ≡ Device }
     ensures text { IsTrue S.tells → TookText (S.tape sink.old) (S.tape sink.new) device_text }
 {
@@ -50,7 +49,7 @@ fn failed<S: Sink>(sink: &mut S) -> Status
 
 // The ending where memory was wanting.
 fn starved<S: Sink>(sink: &mut S) -> Status
-    ensures later { IsLater (S.tape sink.old) (S.tape sink.new) }
+    ensures later { HasCounted (S.tape sink.old) (S.tape sink.new) }
     ensures status { result ≡ NoMemory }
     ensures text { IsTrue S.tells → TookText (S.tape sink.old) (S.tape sink.new) memory_text }
 {
