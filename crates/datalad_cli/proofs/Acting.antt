@@ -1,5 +1,5 @@
 -- Acts of which the value is left out, and calls that act after they have read.
-use Rattle.std.proofs.Common.{◌≡◌, ◌≤◌, ◌⊎◌, inl, inr, Bool, IsTrue, ℕ, List, [], ◌∷◌, ◌++◌, codes, Option, Some, None, Result, Ok, Err, refl, sym, ap, ◌∙◌, subst, arith}
+use Rattle.std.proofs.Common.{◌≡◌, ◌⊎◌, inl, inr, Bool, IsTrue, ℕ, List, [], ◌∷◌, ◌++◌, codes, Option, Some, None, Result, Ok, Err, refl, sym, ap, ◌∙◌, subst}
 use Rattle.places.specs.All.{Names, Ground, IsAtOrAbove}
 use Rattle.file_store.specs.All.{Drive, History, present}
 use Rattle.faults.specs.declared.lines.Line.{Line}

@@ -1,6 +1,6 @@
 -- Acts that end otherwise than another one, or go on with nothing: they stay as sound, and go along as much.
 use Rattle.std.proofs.Common.{◌≡◌, Bool, true, false, ◌||◌, ◌&&◌, List, refl, sym, ap, ◌∙◌, subst, append-nil}
-use Rattle.places.specs.All.{Names, Ground}
+use Rattle.places.specs.All.{Ground}
 use Rattle.file_store.specs.All.{Drive, Since, GoesAlong, finally, present}
 use Rattle.acts.specs.All.{Act, Event, Ending, Gives, Refuses, Breaks, Step, rounds_of, rounds_in}
 use Rattle.acts.specs.All.{still, cut, gives, follow, go_on, bind, IsFirm, Moments, Reaches}

@@ -1,5 +1,5 @@
 -- What follows of a command by its acts, whichever command it is.
-use Rattle.std.proofs.Common.{◌≡◌, ◌<◌, ◌^◌, Bool, true, false, sym, ◌∙◌}
+use Rattle.std.proofs.Common.{◌<◌, ◌^◌, Bool, true, false, sym, ◌∙◌}
 use Rattle.file_store.specs.All.{Drive, present}
 use Rattle.faults.specs.declared.faults.Fault.{Fault}
 use Rattle.acts.specs.All.{Act, EndsRefused, Moments, Reaches}

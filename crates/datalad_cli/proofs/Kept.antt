@@ -1,5 +1,5 @@
 -- What a command leaves at every moment, from its act.
-use Rattle.std.proofs.Common.{◌≡◌, ◌⊎◌, inl, ⊎_elim, ℕ, false, List, [], Option, Some, None, refl, sym, subst}
+use Rattle.std.proofs.Common.{◌≡◌, inl, ⊎_elim, ℕ, false, List, [], Option, Some, None, refl, sym, subst}
 use Rattle.places.specs.All.{Names, has_name, Ground, file_at}
 use Rattle.file_store.specs.All.{Drive, Since, IsImage, present, IsAlong, WasOpen}
 use Rattle.file_store.proofs.Moments.{weaken}
@@ -13,7 +13,6 @@ use Rattle.recursive_save.proofs.Consequences.{every_moment}
 use Rattle.faults.specs.declared.faults.Fault.{Fault}
 use Rattle.faults.specs.declared.faults.Fault.TheVariants.{BadPath, NotADataset}
 use Rattle.datalad_cli.specs.Commands.{Create, Save, IsActAt, LeavesAt, creates, ending_only, wish_of}
-use Rattle.datalad_cli.specs.Commands.{without_value}
 use Rattle.datalad_cli.specs.Ends.{AtEachMoment}
 use Rattle.datalad_cli.specs.Finding.{root_at}
 use Rattle.datalad_cli.proofs.Cuts.{cut_moments, step_moments}

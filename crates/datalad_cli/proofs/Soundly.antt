@@ -1,12 +1,12 @@
 -- A command keeps a sound ground sound, and is refused there for nothing that the program has left; it has one act.
-use Rattle.std.proofs.Common.{◌≡◌, ◌⊎◌, inl, inr, ℕ, ◌<◌, ◌^◌, true, false, List, Option, Some, None, refl, sym, ap, ◌∙◌, subst}
+use Rattle.std.proofs.Common.{◌≡◌, ◌⊎◌, inl, inr, ℕ, ◌<◌, ◌^◌, false, List, Option, Some, None, refl, sym, ap, ◌∙◌, subst}
 use Rattle.places.specs.All.{Names, Ground, has_name}
 use Rattle.faults.specs.declared.faults.Fault.{Fault}
 use Rattle.faults.specs.declared.faults.Fault.TheVariants.{BadPath, NotADataset}
 use Rattle.file_store.specs.All.{Drive, present}
 use Rattle.git_objects.specs.declared.ids.Id.{Id}
 use Rattle.repository.specs.All.{dlrepo}
-use Rattle.acts.specs.All.{Act, Ending, Gives, Refuses, Breaks, EndsRefused, refuses, still}
+use Rattle.acts.specs.All.{Act, Ending, Gives, Refuses, Breaks, EndsRefused, refuses}
 use Rattle.dataset.specs.All.{IsSettled, Sound, StaysSound}
 use Rattle.recursive_save.specs.All.{CreateKeepsSound, SaveKeepsSound, SaveIsComplete, SaveIsOne}
 use Rattle.recursive_save.specs.All.{new_dataset, create_step, IsSoundEnding, IsSoundRefusal}
