@@ -27,7 +27,12 @@ SaveIsOne =
 -- The line of one changed file: it was added or deleted.
 abbrev pub IsChangeLine : Line → Type 0
 IsChangeLine line =
-    (line ≡ record { action = codes "add"; status = codes "ok"; path = line.path; kind = codes "file" })
+    (line ≡ record {
+      action = codes "add";
+      status = codes "ok";
+      path = line.path;
+      kind = codes "file";
+    })
     ⊎ (line ≡ record {
       action = codes "delete";
       status = codes "ok";
@@ -82,8 +87,9 @@ SaveKeeps =
     → IsSave root wish (present old) act → Moments act old new
     → Since (λ d. SaveRemainsAt root act old d) old.history new.history
 
--- The faults for which a save of a sound dataset may be refused: a limit is passed; a nested dataset
--- is in the commit, or among the working files; two objects have one id; a file is in the way.
+-- The faults for which a save of a sound dataset may be refused: a limit is passed; a nested
+-- dataset is in the commit, or among the working files; two objects have one id; a file is in the
+-- way.
 abbrev pub IsSoundRefusal : Fault → Type 0
 IsSoundRefusal (TooLarge path size) = Unit {0}
 IsSoundRefusal (UnsupportedMode path) = Unit {0}

@@ -41,8 +41,8 @@ pub fn save_is_one()
     ensures { SaveIsOne }
 {}
 
-/// At every moment of a save, and in what a crash leaves: nothing outside the repository has changed, the tip comes with
-/// all the rest, and nothing is lost.
+/// At every moment of a save, and in what a crash leaves: nothing outside the repository has changed, the tip comes
+/// with all the rest, and nothing is lost.
 pub fn save_remains()
     ensures { SaveKeeps }
 {}
