@@ -1,6 +1,6 @@
 // What refuses a save: a file of the dataset is gone or other than it was. Nothing has changed then.
 use super::create::DATASET;
-use super::files::{File, holds, memory_of};
+use super::files::{File, holds, list_of, memory_of, rows_of};
 use super::saves::save;
 use std::alloc::Global;
 use std::process::Abort;
@@ -69,15 +69,6 @@ const CASES: [Case<'static>; 9] = [
     },
 ];
 
-fn put(
-    rt: &impl Abort,
-    ground: &mut Vec<File<'static>>,
-    place: &'static str,
-    bytes: &'static [u8],
-) {
-    ground.push(File { place, bytes }).expect(rt, "memory");
-}
-
 // The dataset with a new file `e`, and with the case's file in place of its own.
 fn ground_of(rt: &impl Abort, alloc: Global, case: &Case<'static>) -> Vec<File<'static>> {
     let mut ground = Vec::new(alloc);
@@ -86,14 +77,22 @@ fn ground_of(rt: &impl Abort, alloc: Global, case: &Case<'static>) -> Vec<File<'
             ground.push(*file).expect(rt, "memory");
         }
     }
-    put(rt, &mut ground, "/w/ds/e", b"");
+    let place = "/w/ds/e";
+    let bytes = b"".as_slice();
+    ground.push(File { place, bytes }).expect(rt, "memory");
     if let Some(bytes) = case.bytes {
-        put(rt, &mut ground, case.place, bytes);
+        let place = case.place;
+        ground.push(File { place, bytes }).expect(rt, "memory");
     }
     ground
-        .sort_by(|one, other| one.place.cmp(other.place))
-        .expect(rt, "memory");
-    ground
+}
+
+fn is_refused(rt: &impl Abort, alloc: Global, ground: &[File<'_>], err: &str) {
+    let mut files = memory_of(rt, alloc, ground);
+    let list = list_of(rt, alloc, &files);
+    let rows = rows_of(rt, alloc, list.as_slice());
+    save(rt, alloc, &mut files, "/w/ds", 1, ("", err));
+    holds(rt, alloc, &files, rows.as_slice());
 }
 
 #[test]
@@ -101,8 +100,6 @@ fn save_is_refused(rt: HostRuntime) {
     let alloc = rt.alloc();
     for case in &CASES {
         let ground = ground_of(&rt, alloc, case);
-        let mut files = memory_of(&rt, alloc, ground.as_slice());
-        save(&rt, alloc, &mut files, "/w/ds", 1, ("", case.err));
-        holds(&rt, alloc, &files, ground.as_slice());
+        is_refused(&rt, alloc, ground.as_slice(), case.err);
     }
 }

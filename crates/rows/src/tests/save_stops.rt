@@ -2,8 +2,7 @@
 // those that git makes of the same files.
 use super::courses::is_along;
 use super::create::DATASET;
-use super::devices::numbers;
-use super::files::{File, list_of, memory_of, rows_of};
+use super::files::{File, memory_of};
 use super::saves::save;
 use std::alloc::Global;
 use std::process::Abort;
@@ -67,41 +66,44 @@ const SAVED: (&str, &str) = (
     "",
 );
 
-const CLEAN: (&str, &str) = ("save(notneeded): . (dataset)\n", "");
-
 const CUT_OFF: (&str, &str) = ("", "datalad: a device failed\n");
 
-fn add(rt: &impl Abort, ground: &mut Vec<File<'static>>, files: &[File<'static>]) {
-    for file in files {
-        ground.push(*file).expect(rt, "memory");
+// The files of two lists.
+fn joined(
+    rt: &impl Abort,
+    alloc: Global,
+    one: &[File<'static>],
+    two: &[File<'static>],
+) -> Vec<File<'static>> {
+    let mut files = Vec::new(alloc);
+    for file in one {
+        files.push(*file).expect(rt, "memory");
     }
-}
-
-// The dataset with two new files, but for its tip.
-fn unsaved(rt: &impl Abort, alloc: Global) -> Vec<File<'static>> {
-    let mut ground = Vec::new(alloc);
-    add(rt, &mut ground, &DATASET[..7]);
-    add(rt, &mut ground, &WORK);
-    ground
+    for file in two {
+        files.push(*file).expect(rt, "memory");
+    }
+    files
 }
 
 // What stands before the save, once its objects are put, and after it.
 fn course_of_save(rt: &impl Abort, alloc: Global) -> [Vec<File<'static>>; 3] {
-    let [.., old_tip] = DATASET;
-    let mut before = unsaved(rt, alloc);
-    add(rt, &mut before, &[old_tip]);
-    let mut put = unsaved(rt, alloc);
-    add(rt, &mut put, &[old_tip]);
-    add(rt, &mut put, &OBJECTS);
-    let mut after = unsaved(rt, alloc);
-    add(rt, &mut after, &OBJECTS);
-    add(rt, &mut after, &[NEW_TIP]);
+    let before = joined(rt, alloc, &DATASET, &WORK);
+    let put = joined(rt, alloc, before.as_slice(), &OBJECTS);
+    let untold = joined(rt, alloc, &DATASET[..7], &WORK);
+    let unset = joined(rt, alloc, untold.as_slice(), &OBJECTS);
+    let after = joined(rt, alloc, unset.as_slice(), &[NEW_TIP]);
     [before, put, after]
 }
 
 // A save that is stopped at this call, whatever a crash then leaves.
-fn is_stopped(rt: &impl Abort, alloc: Global, course: &[Vec<File<'_>>], stop: u64) {
-    let mut files = memory_of(rt, alloc, course[0].as_slice());
+fn is_stopped(
+    rt: &impl Abort,
+    alloc: Global,
+    before: &[File<'_>],
+    course: &[Vec<File<'_>>],
+    stop: u64,
+) {
+    let mut files = memory_of(rt, alloc, before);
     files.stop_at(stop);
     save(rt, alloc, &mut files, "/w/ds", 4, CUT_OFF);
     is_along(rt, alloc, &files, course);
@@ -114,54 +116,6 @@ fn save_is_stopped(rt: HostRuntime) {
     let mut files = memory_of(&rt, alloc, course[0].as_slice());
     save(&rt, alloc, &mut files, "/w/ds", 0, SAVED);
     for stop in 1..=files.calls() {
-        is_stopped(&rt, alloc, &course, stop);
-    }
-}
-
-// A save whose call of this number failed, and another one after it, which does what is left to do.
-fn goes_on(
-    rt: &impl Abort,
-    alloc: Global,
-    course: &[Vec<File<'_>>],
-    before: &[u64],
-    after: &[u64],
-) {
-    let mut files = memory_of(rt, alloc, course[0].as_slice());
-    files.fail_at(numbers(rt, alloc, before), numbers(rt, alloc, after));
-    save(rt, alloc, &mut files, "/w/ds", 4, CUT_OFF);
-    files.fail_at(Vec::new(alloc), Vec::new(alloc));
-    let list = list_of(rt, alloc, &files);
-    let rows = rows_of(rt, alloc, list.as_slice());
-    let texts = if has_tip(rows.as_slice()) {
-        CLEAN
-    } else {
-        SAVED
-    };
-    save(rt, alloc, &mut files, "/w/ds", 0, texts);
-    is_along(rt, alloc, &files, &course[1..]);
-    let list = list_of(rt, alloc, &files);
-    let rows = rows_of(rt, alloc, list.as_slice());
-    assert!(rt; has_tip(rows.as_slice()));
-}
-
-// The new tip stands.
-fn has_tip(files: &[File<'_>]) -> bool {
-    for file in files {
-        if file.place == TIP {
-            return file.bytes == NEW_TIP.bytes;
-        }
-    }
-    false
-}
-
-#[test]
-fn save_is_done_again(rt: HostRuntime) {
-    let alloc = rt.alloc();
-    let course = course_of_save(&rt, alloc);
-    let mut files = memory_of(&rt, alloc, course[0].as_slice());
-    save(&rt, alloc, &mut files, "/w/ds", 0, SAVED);
-    for n in 1..=files.calls() {
-        goes_on(&rt, alloc, &course, &[n], &[]);
-        goes_on(&rt, alloc, &course, &[], &[n]);
+        is_stopped(&rt, alloc, course[0].as_slice(), &course, stop);
     }
 }
