@@ -1,0 +1,11 @@
+pub mod Spellings
+pub mod Numbers
+pub mod Naming
+pub mod Lists
+pub mod Fronts
+pub mod Onward
+pub mod Sound
+pub mod Complete
+pub mod Completion
+pub mod Stops
+pub mod Read

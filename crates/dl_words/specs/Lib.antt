@@ -1,0 +1,9 @@
+pub mod Table
+pub mod Spelling
+pub mod Operands
+pub mod Request
+pub mod Grammar
+pub mod Laws
+pub mod Steps
+pub mod Built
+pub mod All
