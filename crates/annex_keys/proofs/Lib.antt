@@ -1,0 +1,10 @@
+pub mod Digests
+pub mod Directories
+pub mod FrontStops
+pub mod Groups
+pub mod Names
+pub mod Past
+pub mod Pointing
+pub mod Prefixes
+pub mod Readings
+pub mod Sizes

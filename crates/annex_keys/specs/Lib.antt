@@ -1,0 +1,12 @@
+pub mod All
+pub mod Contents
+pub mod Extensions
+pub mod GroupsAtEnd
+pub mod Keys
+pub mod Laws
+pub mod Pieces
+pub mod Plain
+pub mod Pointers
+pub mod Reads
+pub mod Steps
+pub mod Stops
