@@ -29,10 +29,10 @@ use Rattle.object_store.specs.declared.objects.NewObject.{NewObject}
 
 -- ---- an id is bytes
 
-abbrev IsByte : ℕ → Type 0
+abbrev pub IsByte : ℕ → Type 0
 IsByte b = b < 256
 
-abbrev IsBytes : List ℕ → Type 0
+abbrev pub IsBytes : List ℕ → Type 0
 IsBytes bytes = (i : ℕ) → slice_index bytes i < 256
 
 low_byte : (k n : ℕ) → byte_at k n < 256
@@ -48,7 +48,7 @@ unfolding digest_bytes
 digest_is_bytes h zero = All-nil IsByte
 digest_is_bytes h (suc n) = All-append IsByte (digest_bytes h n) (to_be_bytes w32 (slice_index h n)) (digest_is_bytes h n) (high_bytes 4 (slice_index h n))
 
-by_index : (xs : List ℕ) → All IsByte xs → IsBytes xs
+pub by_index : (xs : List ℕ) → All IsByte xs → IsBytes xs
 by_index [] all i = omega arith
 by_index (x ∷ xs) all zero = All-head IsByte x xs all
 by_index (x ∷ xs) all (suc i) = by_index xs (All-tail IsByte x xs all) i

@@ -4,6 +4,7 @@ pub mod Ids
 pub mod Lists
 pub mod Looks
 pub mod Ours
+pub mod Prefixes
 pub mod PutActs
 pub mod Staged
 pub mod Within

@@ -4,6 +4,8 @@ pub use Rattle.object_store.specs.Looks.{AreFiles, AreMissing, HaveIds, HaveOwnP
 pub use Rattle.object_store.specs.Looks.{IsFoundAmong, IsLooked, LookReads, MayAdd, MissingReads}
 pub use Rattle.object_store.specs.Looks.{file_of, looked}
 pub use Rattle.object_store.specs.Objects.{object_text, objects_round, place_in, with_objects}
+pub use Rattle.object_store.specs.Prefixes.{AreIdsWith, BeginWith, MaySearch, begins_with}
+pub use Rattle.object_store.specs.Prefixes.{long_objects}
 pub use Rattle.object_store.specs.PutActs.{IsTooLong, MayPut, early_fault, long_fault, puts_missing}
 pub use Rattle.object_store.specs.PutActs.{puts_some}
 unfoldable pub use Rattle.object_store.specs.PutActs.{puts_objects}

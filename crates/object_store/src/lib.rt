@@ -5,9 +5,11 @@ mod looking;
 mod objects;
 mod putting;
 mod reading;
+mod searching;
 #[cfg(test)]
 mod tests;
 
 pub use objects::NewObject;
 pub use putting::put_all;
 pub use reading::{get, held_is_read, read_commit, read_tree};
+pub use searching::ids_with_prefix;

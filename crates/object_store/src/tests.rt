@@ -243,3 +243,97 @@ fn damage_is_told(rt: HostRuntime) -> Result<(), Fail> {
     }
     Ok(())
 }
+
+// Three objects, of which two share four digits.
+const PREFIXED: [(&str, &str); 3] = [
+    ("ce013625030ba8dba906f756967f9e9ca394464a", HELLO),
+    (
+        "ce0137ffffffffffffffffffffffffffffffffff",
+        "/r/.dlrepo/objects/ce/0137ffffffffffffffffffffffffffffffffff",
+    ),
+    ("4b825dc642cb6eb9a060e54bf8d69288fbee4904", NO_TREE),
+];
+
+// What is no object's file: other names, other directories, and a directory under an object's name.
+const NO_OBJECTS: [&str; 6] = [
+    "/r/.dlrepo/objects/ce/0137FFFFFFFFFFFFFFFFFFFFFFFFFFFFFFFFFF",
+    "/r/.dlrepo/objects/ce/0138ffffffffffffffffffffffffffffffffff/x",
+    "/r/.dlrepo/objects/ce/01380000000000000000000000000000000000.lock",
+    "/r/.dlrepo/objects/ce/0138",
+    "/r/.dlrepo/objects/c/e0138fffffffffffffffffffffffffffffffffff",
+    "/r/.dlrepo/objects/CE/013625030ba8dba906f756967f9e9ca394464a",
+];
+
+// The digits, and which of the objects are found, ascending.
+const SEARCHES: [(&str, &[usize]); 11] = [
+    ("ce01", &[0, 1]),
+    ("ce0136", &[0]),
+    ("ce013625030ba8dba906f756967f9e9ca394464a", &[0]),
+    ("c", &[0, 1]),
+    ("4", &[2]),
+    ("", &[2, 0, 1]),
+    ("ce0138", &[]),
+    ("ce1", &[]),
+    ("CE01", &[]),
+    ("x", &[]),
+    ("ce013625030ba8dba906f756967f9e9ca394464a0", &[]),
+];
+
+fn searched_files(rt: &impl Abort, alloc: Global) -> Result<MemFiles, Fail> {
+    let mut list = Vec::new(alloc);
+    for (_, text) in PREFIXED {
+        list.push((place(rt, alloc, text), Vec::new(alloc)))?;
+    }
+    for text in NO_OBJECTS {
+        list.push((place(rt, alloc, text), Vec::new(alloc)))?;
+    }
+    Ok(MemFiles::from_list(alloc, list).expect(rt, "files"))
+}
+
+#[test]
+fn prefixes_are_searched(rt: HostRuntime) -> Result<(), Fail> {
+    let alloc = rt.alloc();
+    let repo = place(&rt, alloc, "/r/.dlrepo");
+    let mut files = searched_files(&rt, alloc)?;
+    for (digits, expected) in SEARCHES {
+        let found = ids_with_prefix(alloc, &mut files, &repo, digits).expect(&rt, "ids");
+        assert_eq!(&rt; found.len(), expected.len(), "of {digits}");
+        for (id, index) in found.iter().zip(expected) {
+            let (hex, _) = PREFIXED.get(*index).expect(&rt, "an object");
+            assert_eq!(&rt; id.to_hex().as_slice(), hex.as_bytes(), "of {digits}");
+        }
+    }
+    Ok(())
+}
+
+#[test]
+fn one_directory_is_listed(rt: HostRuntime) -> Result<(), Fail> {
+    let alloc = rt.alloc();
+    let repo = place(&rt, alloc, "/r/.dlrepo");
+    let mut files = searched_files(&rt, alloc)?;
+    files.stop_at(2);
+    assert!(&rt; ids_with_prefix(alloc, &mut files, &repo, "ce01").is_ok());
+    assert!(&rt; ids_with_prefix(alloc, &mut files, &repo, "CE01").is_ok());
+    assert!(&rt;
+        matches!(
+            ids_with_prefix(alloc, &mut files, &repo, "ce"),
+            Err(Trouble::Device)
+        )
+    );
+
+    // a repository's place of 4,047 bytes
+    let mut text = String::new(alloc);
+    for _ in 0..15 {
+        push_name(&mut text, 255)?;
+    }
+    push_name(&mut text, 206)?;
+    let repo = place(&rt, alloc, text.as_str());
+    match ids_with_prefix(alloc, &mut files, &repo, "ce01") {
+        Err(Trouble::Refused(Fault::TooLarge { path, size })) => {
+            assert_eq!(&rt; path.as_str(), repo.as_str());
+            assert_eq!(&rt; size, 4047);
+        }
+        _ => return Err(Fail::from("too large")),
+    }
+    Ok(())
+}
