@@ -2,6 +2,13 @@ pub mod Arriving
 pub mod Fitting
 pub mod Fronts
 pub mod Keeping
+pub mod KeyLists
 pub mod Leading
+pub mod Makes
+pub mod Once
+pub mod Searching
 pub mod Sets
 pub mod Tips
+pub mod Turning
+pub mod Walking
+pub mod Words

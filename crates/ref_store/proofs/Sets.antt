@@ -33,17 +33,17 @@ tip_outside repo (Some name) = is_in-under repo tmp_names (codes "refs" ∷ code
 pub tip_apart : (repo tmp place : Names) (branch : Option (List ℕ)) → tmp ≡ tmp_place repo 0 → place ≡ tip_place repo branch → tmp ≢ place
 tip_apart repo tmp place branch at_tmp at_place e = outside_apart repo (tip_place repo branch) 0 (tip_outside repo branch) (sym at_place ∙ sym e ∙ at_tmp)
 
-long_is : (repo : Names) (fault : Fault) → repo_limit < length (text_of repo) → fault ≡ TooLarge (text_of repo) (length (text_of repo)) → long_repo repo ≡ Some fault
+pub long_is : (repo : Names) (fault : Fault) → repo_limit < length (text_of repo) → fault ≡ TooLarge (text_of repo) (length (text_of repo)) → long_repo repo ≡ Some fault
 long_is repo fault long is = ap (λ b. cond b (large repo) None) (lt-ltb repo_limit (length (text_of repo)) long) ∙ ap Some (sym is)
 
-fits_is : (repo : Names) → length (text_of repo) ≤ repo_limit → long_repo repo ≡ None
+pub fits_is : (repo : Names) → length (text_of repo) ≤ repo_limit → long_repo repo ≡ None
 fits_is repo fits = ap (λ b. cond b (large repo) None) (le-ltb repo_limit (length (text_of repo)) fits)
 
 present_same : (old new : Drive) → new.history ≡ old.history → present new ≡ present old
 present_same old new same = ap (λ (h : History). h.latest.now) same
 
 -- ONE FILE by way of the first temporary place
-can_replace : (repo tmp place : Names) (bytes : List ℕ) → is_repo repo ≡ true → tmp ≡ tmp_place repo 0 → tmp ≢ place → CanReplace (only tmp place bytes)
+pub can_replace : (repo tmp place : Names) (bytes : List ℕ) → is_repo repo ≡ true → tmp ≡ tmp_place repo 0 → tmp ≢ place → CanReplace (only tmp place bytes)
 can_replace repo tmp place bytes is at_tmp differ = record { routes = routes; apart = apart_only tmp place bytes differ }
   where
     routes : (i : ℕ) (r : Replacement) → slice_get (only tmp place bytes) i ≡ Some r → is_tmp r.tmp ≡ true

@@ -1,6 +1,11 @@
 pub mod All
+pub mod Branches
 pub mod Forms
 pub mod Laws
 pub mod Layout
 pub mod Reading
+pub mod Resolving
+pub mod RevisionWords
+pub mod Revisions
 pub mod Setting
+pub mod Walks

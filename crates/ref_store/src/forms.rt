@@ -3,8 +3,8 @@ ghost use Rattle.std.specs.Prelude.{◌≡◌, ◌++◌, ℕ, List, take, bytes_
 ghost use Rattle.repository.specs.All.{id_text, ref_text, id_in, branch_in};
 ghost use Rattle.ref_store.specs.Forms.{head_text, head_given};
 
-use crate::branches::is_branch;
 use crate::heads::Head;
+use crate::names::is_branch;
 use git_objects::Id;
 use hex::FromHex;
 use places::Text;

@@ -1,5 +1,8 @@
 // What follows of the readings and settings of heads: laws of their definitions.
+ghost use Rattle.ref_store.specs.Revisions.{ResolvesOnce};
 ghost use Rattle.ref_store.specs.Laws.{ReadsAgree, SetHeadSets, SetTipKeeps, SetTipSets};
+
+use git_objects::texts_have_one_reading;
 
 /// The tip is read exactly where HEAD leads to a commit.
 pub fn reads_agree()
@@ -20,3 +23,10 @@ pub fn set_head_sets()
 pub fn set_tip_keeps()
     ensures { SetTipKeeps }
 {}
+
+/// A revision word is read in one way, and leads to one commit or to one refusal.
+pub fn resolves_once()
+    ensures { ResolvesOnce }
+{
+    texts_have_one_reading();
+}

@@ -47,8 +47,8 @@ pub fn read_head<F: Files>(alloc: Global, files: &mut F, repo: &Place) -> Result
     }
 }
 
-// The commit that a branch names.
-fn branch_tip<F: Files>(
+/// The commit that a branch names.
+pub(crate) fn branch_tip<F: Files>(
     alloc: Global,
     files: &mut F,
     repo: &Place,

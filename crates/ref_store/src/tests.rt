@@ -1,4 +1,7 @@
 // Heads in git's own forms: what is read, what is refused, and what stands after a setting.
+mod branches;
+mod revisions;
+
 use super::*;
 use faults::{Fault, Trouble};
 use file_store::{Files, MemFiles};
