@@ -1,0 +1,13 @@
+// What follows of a log.
+ghost use Rattle.history.specs.Logs.{LogIsOne};
+
+use git_objects::texts_have_one_reading;
+use ref_store::resolves_once;
+
+/// Of one ground a log ends in one way.
+pub fn log_is_one()
+    ensures { LogIsOne }
+{
+    resolves_once();
+    texts_have_one_reading();
+}

@@ -1,0 +1,10 @@
+//! The history of a dataset: the commits to which a revision leads, along first parents.
+#![tactic(auto)]
+
+mod laws;
+mod logs;
+#[cfg(test)]
+mod tests;
+
+pub use laws::log_is_one;
+pub use logs::log;
