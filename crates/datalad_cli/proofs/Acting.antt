@@ -1,4 +1,4 @@
--- Acts of which the value is left out, and calls that act after they have read.
+-- Acts with a text in the place of their value, and calls that act after they have read.
 use Rattle.std.proofs.Common.{◌≡◌, ◌⊎◌, inl, inr, Bool, IsTrue, ℕ, List, [], ◌∷◌, ◌++◌, codes, Option, Some, None, Result, Ok, Err, refl, sym, ap, ◌∙◌, subst}
 use Rattle.places.specs.All.{Names, Ground, IsAtOrAbove}
 use Rattle.file_store.specs.All.{Drive, History, present}
@@ -9,13 +9,13 @@ use Rattle.faults.specs.declared.faults.Fault.TheVariants.{NotADataset}
 use Rattle.faults.specs.declared.faults.Trouble.TheVariants.{Refused, Device, NoMemory}
 use Rattle.git_objects.specs.declared.ids.Id.{Id}
 use Rattle.acts.specs.All.{Act, Ending, Gives, Refuses, Breaks, Acts, ActsAs, EndsRefused, Goes}
-use Rattle.acts.specs.All.{HasCause, IsHalt, Reaches, is_device, still}
+use Rattle.acts.specs.All.{HasCause, IsHalt, Reaches, gives, is_device, still}
 use Rattle.file_store.proofs.Counted.{counts_from}
-use Rattle.acts.proofs.Laws.{after_reading}
+use Rattle.acts.proofs.As.{as_allowed}
+use Rattle.acts.proofs.Laws.{after_reading, done}
 use Rattle.recursive_save.specs.All.{AreSaveLines, IsSave, MaySave, SaveSays, dataset_line}
-use Rattle.datalad_cli.specs.Commands.{Save, IsActAt, IsActOf, MayAnswer, ending_only}
-use Rattle.datalad_cli.specs.Commands.{without_value}
-use Rattle.datalad_cli.specs.Commands.{wish_of}
+use Rattle.datalad_cli.specs.Commands.{CarriesOut, Save, IsActIn, IsActOf, IsSaveAct, MayAnswer}
+use Rattle.datalad_cli.specs.Commands.{ending_with, wish_of, with_text}
 use Rattle.datalad_cli.specs.Finding.{root_at}
 
 -- A CALL AFTER A READING
@@ -38,27 +38,33 @@ as_after {V} {may} {tells} {IsAct} {l0} {l1} {old} {mid} {new} {r} stood same ac
   ];
 }
 
--- WITHOUT ITS VALUE
-module _ {V : Type 0} (a : Act V) (d0 d1 : Drive) where
-  reaches_only : Reaches a d0 d1 → Reaches (without_value a) d0 d1
-  reaches_only r = record { stands = r.stands; rests = r.rests; kept = r.kept; safe = r.safe }
+-- a value, after a reading that changed nothing
+pub as_gives : {V : Type 0} {may : Fault → Type 0} {tells : Bool} {IsAct : Ground → Act V → Type 0} {v : V} {l : List Line} {d0 d1 : Drive}
+    → d1.faults ≡ d0.faults → (IsTrue tells → (d1.history ≡ d0.history) × IsAct (present d0) (still (Gives v))) → ActsAs may tells IsAct l l d0 d1 (Ok v)
+unfolding gives
+as_gives {V} {may} {tells} {IsAct} {v} stood is = as_allowed (gives v) (λ t. (is t).1) (after_reading stood (λ t. (is t).0) done)
 
-  refused_only : (e : Ending V) (fault : Fault) → EndsRefused e fault (Reaches a d0 d1) → EndsRefused (ending_only e) fault (Reaches (without_value a) d0 d1)
-  refused_only (Gives v) fault h = absurd h
-  refused_only (Refuses own) fault h = (h.0, reaches_only h.1)
-  refused_only (Breaks own) fault h = h
+-- WITH A TEXT in the place of the value
+module _ {V : Type 0} (a : Act V) (text : List ℕ) (d0 d1 : Drive) where
+  reaches_with : Reaches a d0 d1 → Reaches (with_text text a) d0 d1
+  reaches_with r = record { stands = r.stands; rests = r.rests; kept = r.kept; safe = r.safe }
+
+  refused_with : (e : Ending V) (fault : Fault) → EndsRefused e fault (Reaches a d0 d1) → EndsRefused (ending_with text e) fault (Reaches (with_text text a) d0 d1)
+  refused_with (Gives v) fault h = absurd h
+  refused_with (Refuses own) fault h = (h.0, reaches_with h.1)
+  refused_with (Breaks own) fault h = h
 
   module _ (l0 l1 : List Line) where
-    goes_ok : (v : V) → Goes a l0 l1 d0 d1 (Ok v) → Goes (without_value a) l0 l1 d0 d1 (Ok tt)
+    goes_ok : (v : V) → Goes a l0 l1 d0 d1 (Ok v) → Goes (with_text text a) l0 l1 d0 d1 (Ok text)
     goes_ok v goes = record {
-      ends = record { ending = ap (λ (e : Ending V). ending_only e) goes.ends.ending; said = goes.ends.said; reaches = reaches_only goes.ends.reaches };
+      ends = record { ending = ap (λ (e : Ending V). ending_with text e) goes.ends.ending; said = goes.ends.said; reaches = reaches_with goes.ends.reaches };
       moments = record { along = goes.moments.along };
       came = record { done = goes.came.done; rest = goes.came.rest; splits = goes.came.splits; said = goes.came.said; lies = goes.came.lies };
     }
 
-    goes_err : (t : Trouble) → Goes a l0 l1 d0 d1 (Err t) → Goes (without_value a) l0 l1 d0 d1 (Err t)
+    goes_err : (t : Trouble) → Goes a l0 l1 d0 d1 (Err t) → Goes (with_text text a) l0 l1 d0 d1 (Err t)
     goes_err (Refused fault) goes = record {
-      ends = record { ending = refused_only a.ending fault goes.ends.ending; said = goes.ends.said };
+      ends = record { ending = refused_with a.ending fault goes.ends.ending; said = goes.ends.said };
       moments = record { along = goes.moments.along };
       came = record { done = goes.came.done; rest = goes.came.rest; splits = goes.came.splits; said = goes.came.said; lies = goes.came.lies };
     }
@@ -81,39 +87,42 @@ same_halt V W NoMemory h = h
 
 module _ (cwd : Names) (message : List ℕ) (moment : ℕ) (root : Names) (at : IsAtOrAbove root cwd) (tells : Bool) (l0 l1 : List Line) (d0 d1 : Drive)
     (found : IsTrue tells → root_at cwd (present d0) ≡ Some root) where
-  act_at : (g : Ground) (saved : Act (Option Id)) → root_at cwd g ≡ Some root → IsSave root (wish_of message moment) g saved → IsActOf (Save cwd message moment) g (without_value saved)
-  act_at g saved is one = subst (λ (o : Option Names). IsActAt cwd (wish_of message moment) g o (without_value saved)) (sym is) (saved, one, refl)
+  act_at : (g : Ground) (saved : Act (Option Id)) → root_at cwd g ≡ Some root → IsSave root (wish_of message moment) g saved → IsActOf (Save cwd message moment) g (with_text [] saved)
+  act_at g saved is one = subst (λ (o : Option Names). IsActIn cwd (IsSaveAct (wish_of message moment) g) o (with_text [] saved)) (sym is) (saved, one, refl)
 
   abbrev Saves : Result (Option Id) Trouble → Type 0
   Saves r = ActsAs (λ fault. MaySave tells root fault) tells (λ g act. IsSave root (wish_of message moment) g act) l0 l1 d0 d1 r
 
-  abbrev Does : Result (Unit {0}) Trouble → Type 0
-  Does r = ActsAs (λ fault. MayAnswer tells (Save cwd message moment) fault) tells (λ g act. IsActOf (Save cwd message moment) g act) l0 l1 d0 d1 r
+  abbrev Does : Result (List ℕ) Trouble → Type 0
+  Does r = CarriesOut tells (Save cwd message moment) l0 l1 d0 d1 r
 
-  pub save_gave : (v : Option Id) → Saves (Ok v) → Does (Ok tt)
-  save_gave v acts = record {
+  gave : (v : Option Id) → Saves (Ok v) → Does (Ok [])
+  gave v acts = record {
     later = acts.later;
     cause = tt;
     told = λ t. elim (acts.told t) [
       | inl halt ↦ absurd halt.why
-      | inr one ↦ inr (without_value one.0, act_at (present d0) one.0 (found t) one.1, goes_ok one.0 d0 d1 l0 l1 v one.2)
+      | inr one ↦ inr (with_text [] one.0, act_at (present d0) one.0 (found t) one.1, goes_ok one.0 [] d0 d1 l0 l1 v one.2)
     ];
   }
+
+  pub save_gave : (v : Option Id) (text : List ℕ) → text ≡ [] → Saves (Ok v) → Does (Ok text)
+  save_gave v text none acts = subst (λ (text : List ℕ). Does (Ok text)) (sym none) (gave v acts)
 
   pub save_failed : (t : Trouble) → Saves (Err t) → Does (Err t)
   save_failed e acts = record {
     later = acts.later;
-    cause = more_cause (Option Id) (Unit {0}) (λ fault. MaySave tells root fault) (λ fault. MayAnswer tells (Save cwd message moment) fault) (λ fault may. inr (root, at, may)) e acts.cause;
+    cause = more_cause (Option Id) (List ℕ) (λ fault. MaySave tells root fault) (λ fault. MayAnswer tells (Save cwd message moment) fault) (λ fault may. inr (root, at, may)) e acts.cause;
     told = λ t. elim (acts.told t) [
-      | inl halt ↦ inl (record { why = same_halt (Option Id) (Unit {0}) e halt.why; said = halt.said; kept = halt.kept })
-      | inr one ↦ inr (without_value one.0, act_at (present d0) one.0 (found t) one.1, goes_err one.0 d0 d1 l0 l1 e one.2)
+      | inl halt ↦ inl (record { why = same_halt (Option Id) (List ℕ) e halt.why; said = halt.said; kept = halt.kept })
+      | inr one ↦ inr (with_text [] one.0, act_at (present d0) one.0 (found t) one.1, goes_err one.0 [] d0 d1 l0 l1 e one.2)
     ];
   }
 
 -- no root was found
-pub none_found : (cwd : Names) (message : List ℕ) (moment : ℕ) (g : Ground) (fault : Fault) → root_at cwd g ≡ None → fault ≡ NotADataset cwd → IsActOf (Save cwd message moment) g (still (Refuses fault))
-none_found cwd message moment g fault none is =
-    subst (λ (o : Option Names). IsActAt cwd (wish_of message moment) g o (still (Refuses fault))) (sym none) (ap (λ (f : Fault). still (Refuses f)) is)
+pub none_found : (cwd : Names) (IsIts : Names → Act (List ℕ) → Type 0) (g : Ground) (fault : Fault) → root_at cwd g ≡ None → fault ≡ NotADataset cwd → IsActIn cwd IsIts (root_at cwd g) (still (Refuses fault))
+none_found cwd IsIts g fault none is =
+    subst (λ (o : Option Names). IsActIn cwd IsIts o (still (Refuses fault))) (sym none) (ap (λ (f : Fault). still (Refuses f)) is)
 
 -- a root that was found is one after a reading too
 pub found_later : (cwd root : Names) (old mid : Drive) → mid.history ≡ old.history → root_at cwd (present old) ≡ Some root → root_at cwd (present mid) ≡ Some root

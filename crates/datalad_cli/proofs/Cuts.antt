@@ -26,14 +26,14 @@ module _ {V W : Type 0} (a : Act V) (e : Ending W) (old new : Drive) where
   pub cut_stays : StaysSound a old new → StaysSound (cut a e) old new
   cut_stays s = record { moments = λ m. s.moments (cut_moments m); sound = λ r. s.sound (cut_reaches r); settled = λ r. s.settled (cut_reaches r) }
 
--- NOTHING MORE
+-- NOTHING MORE, and another value
 or_none : (b : Bool) → b ≡ false → (b || false) ≡ false
 or_none true e = e
 or_none false e = refl
 
-module _ {V : Type 0} (a : Act V) (old new : Drive) where
-  abbrev Followed : Act (Unit {0})
-  Followed = follow a (still (Gives (tt {0})))
+module _ {V W : Type 0} (a : Act V) (w : W) (old new : Drive) where
+  abbrev Followed : Act W
+  Followed = follow a (still (Gives w))
 
   first_moments : Moments Followed old new → Moments a old new
   first_moments m = record {
@@ -56,23 +56,23 @@ module _ {V : Type 0} (a : Act V) (old new : Drive) where
     settled = λ r. s.settled (first_reaches r);
   }
 
-  act_moments : (e : Ending V) (g : Ground) → Moments (go_on a e g (λ _. gives (tt {0}))) old new → Moments a old new
+  act_moments : (e : Ending V) (g : Ground) → Moments (go_on a e g (λ _. gives w)) old new → Moments a old new
   unfolding gives
   act_moments (Gives v) g m = first_moments m
-  act_moments (Refuses fault) g m = cut_moments {W = Unit {0}} a (Refuses fault) old new m
-  act_moments (Breaks fault) g m = cut_moments {W = Unit {0}} a (Breaks fault) old new m
+  act_moments (Refuses fault) g m = cut_moments {W = W} a (Refuses fault) old new m
+  act_moments (Breaks fault) g m = cut_moments {W = W} a (Breaks fault) old new m
 
-  act_stays : (e : Ending V) (g : Ground) → StaysSound a old new → StaysSound (go_on a e g (λ _. gives (tt {0}))) old new
+  act_stays : (e : Ending V) (g : Ground) → StaysSound a old new → StaysSound (go_on a e g (λ _. gives w)) old new
   unfolding gives
   act_stays (Gives v) g s = first_stays s
-  act_stays (Refuses fault) g s = cut_stays {W = Unit {0}} a (Refuses fault) old new s
-  act_stays (Breaks fault) g s = cut_stays {W = Unit {0}} a (Breaks fault) old new s
+  act_stays (Refuses fault) g s = cut_stays {W = W} a (Refuses fault) old new s
+  act_stays (Breaks fault) g s = cut_stays {W = W} a (Breaks fault) old new s
 
-module _ {V : Type 0} (f : Step V) (old new : Drive) where
-  pub step_moments : Moments (bind f (λ _. gives (tt {0})) (present old)) old new → Moments (f (present old)) old new
+module _ {V W : Type 0} (f : Step V) (w : W) (old new : Drive) where
+  pub step_moments : Moments (bind f (λ _. gives w) (present old)) old new → Moments (f (present old)) old new
   unfolding bind
-  step_moments m = act_moments (f (present old)) old new (f (present old)).ending (present old) m
+  step_moments m = act_moments (f (present old)) w old new (f (present old)).ending (present old) m
 
-  pub step_stays : StaysSound (f (present old)) old new → StaysSound (bind f (λ _. gives (tt {0})) (present old)) old new
+  pub step_stays : StaysSound (f (present old)) old new → StaysSound (bind f (λ _. gives w) (present old)) old new
   unfolding bind
-  step_stays s = act_stays (f (present old)) old new (f (present old)).ending (present old) s
+  step_stays s = act_stays (f (present old)) w old new (f (present old)).ending (present old) s

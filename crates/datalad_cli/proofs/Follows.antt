@@ -1,46 +1,104 @@
 -- What follows of a command by its acts, whichever command it is.
-use Rattle.std.proofs.Common.{◌<◌, ◌^◌, Bool, true, false, sym, ◌∙◌}
+use Rattle.std.proofs.Common.{◌≡◌, ◌<◌, ◌^◌, ℕ, List, Option, Bool, true, false, refl, sym, ◌∙◌}
+use Rattle.places.specs.All.{Names}
 use Rattle.file_store.specs.All.{Drive, present}
 use Rattle.faults.specs.declared.faults.Fault.{Fault}
-use Rattle.acts.specs.All.{Act, EndsRefused, Moments, Reaches}
+use Rattle.acts.specs.All.{Act, Ending, EndsRefused, Gives, Moments, Reaches, still}
 use Rattle.dataset.specs.All.{Sound}
 use Rattle.recursive_save.specs.All.{CreateKeepsSound, SaveKeepsSound, SaveIsComplete, SaveIsOne}
 use Rattle.recursive_save.specs.All.{SaveKeeps}
-use Rattle.datalad_cli.specs.Answer.{Call}
-use Rattle.datalad_cli.specs.Commands.{Command, HasOneAct, IsActOf, IsSoundFault, MayAnswer}
-use Rattle.datalad_cli.specs.Commands.{command_by, command_of}
+use Rattle.history.specs.All.{LogIsOne}
+use Rattle.dl_words.specs.declared.words.Word.{Word}
+use Rattle.dl_words.specs.declared.words.Words.{Words}
+use Rattle.dl_words.specs.declared.words.Words.TheVariants as words
+use Rattle.datalad_cli.specs.Commands.{Command, Help, HasOneAct, IsActOf, IsSoundFault, Log, MayAnswer}
+use Rattle.datalad_cli.specs.Commands.{Version, command_of}
 use Rattle.datalad_cli.specs.Ends.{AtEachMoment, KeepsSound}
-use Rattle.datalad_cli.specs.Words.{begins_create, dir_word, leads, message_of, message_word}
-use Rattle.datalad_cli.proofs.Kept.{create_leaves, save_leaves}
+use Rattle.datalad_cli.specs.Help.{help_text, version_text}
+use Rattle.datalad_cli.specs.Words.{leads, message_by, revision_by}
+use Rattle.datalad_cli.proofs.Kept.{create_leaves, nothing_left, save_leaves}
+use Rattle.datalad_cli.proofs.Logging.{log_has_one, log_still}
 use Rattle.datalad_cli.proofs.Roots.{leads_clear}
-use Rattle.datalad_cli.proofs.Soundly.{create_sound, save_sound, save_refused, save_is_one}
+use Rattle.datalad_cli.proofs.Soundly.{create_sound, save_sound, save_refused, save_is_one, still_sound}
 
 -- what each act of a command leaves, keeps and refuses, and that there is one at most
 pub record Follows (command : Command) (old new : Drive) : Type 0 where
-  pub leaves : (act : Act (Unit {0})) → IsActOf command (present old) act → Moments act old new → AtEachMoment command act old new
-  pub sound : (act : Act (Unit {0})) → IsActOf command (present old) act → KeepsSound command act old new
-  pub refused : (act : Act (Unit {0})) (fault : Fault) → IsActOf command (present old) act → EndsRefused act.ending fault (Reaches act old new) → MayAnswer true command fault → Sound (present old) → IsSoundFault command fault
+  pub leaves : (act : Act (List ℕ)) → IsActOf command (present old) act → Moments act old new → AtEachMoment command act old new
+  pub sound : (act : Act (List ℕ)) → IsActOf command (present old) act → KeepsSound command act old new
+  pub refused : (act : Act (List ℕ)) (fault : Fault) → IsActOf command (present old) act → EndsRefused act.ending fault (Reaches act old new) → MayAnswer true command fault → Sound (present old) → IsSoundFault command fault
   pub one : HasOneAct command (present old)
 
-module _ (made : CreateKeepsSound) (kept : SaveKeepsSound) (remains : SaveKeeps) (complete : SaveIsComplete) (single : SaveIsOne) (call : Call) (dated : call.moment < 2 ^ 64) (old new : Drive) where
-  by_words : (b : Bool) → Follows (command_by call b) old new
-  by_words true =
-      let to = leads call.cwd (dir_word call.words) in
-      let clear = leads_clear call.cwd (dir_word call.words) in
+-- the laws of all commands
+pub record CommandLaws : Type 0 where
+  pub made : CreateKeepsSound
+  pub kept : SaveKeepsSound
+  pub remains : SaveKeeps
+  pub complete : SaveIsComplete
+  pub single : SaveIsOne
+  pub logged : LogIsOne
+
+module _ (laws : CommandLaws) (cwd : Names) (moment : ℕ) (dated : moment < 2 ^ 64) (fresh : List ℕ) (old new : Drive) where
+  log_follows : (word : List ℕ) → Follows (Log cwd word) old new
+  log_follows word = record {
+    leaves = λ act is m.
+        let none = log_still cwd word (present old) act is in
+        let left = nothing_left none.0 act old new none.1 m in
+        record { along = m; stands = left.0; images = left.1 };
+    sound = λ act is can sound settled.
+        let none = log_still cwd word (present old) act is in
+        still_sound none.0 act old new none.1 sound settled;
+    refused = λ act fault is ends may sound. may;
+    one = log_has_one laws.logged cwd word (present old);
+  }
+
+  help_follows : Follows Help old new
+  help_follows = record {
+    leaves = λ act is m.
+        let left = nothing_left (Gives help_text) act old new is m in
+        record { along = m; stands = left.0; images = left.1 };
+    sound = λ act is can sound settled. still_sound (Gives help_text) act old new is sound settled;
+    refused = λ act fault is ends may sound. may;
+    one = λ one two is other. is ∙ sym other;
+  }
+
+  version_follows : Follows Version old new
+  version_follows = record {
+    leaves = λ act is m.
+        let left = nothing_left (Gives version_text) act old new is m in
+        record { along = m; stands = left.0; images = left.1 };
+    sound = λ act is can sound settled. still_sound (Gives version_text) act old new is sound settled;
+    refused = λ act fault is ends may sound. may;
+    one = λ one two is other. is ∙ sym other;
+  }
+
+  pub follows : (asked : Words) → Follows (command_of cwd moment fresh asked) old new
+  follows (words.Create dataset path) =
+      let to = leads cwd path.text in
+      let clear = leads_clear cwd path.text in
       record {
-        leaves = λ act is m. create_leaves call.moment call.fresh old new to clear act is m;
-        sound = λ act is. create_sound made call.moment dated call.fresh old new to clear act is;
+        leaves = λ act is m. create_leaves path.index moment fresh old new to clear act is m;
+        sound = λ act is. create_sound laws.made path.index moment dated fresh old new to clear act is;
         refused = λ act fault is ends may sound. may;
         one = λ one two is other. is ∙ sym other;
       }
-  by_words false =
-      let message = message_of (message_word call.words) in
+  follows (words.Save dataset message message_file recursive to_git paths) =
+      let text = message_by message in
       record {
-        leaves = λ act is m. save_leaves remains call.cwd message call.moment old new act is m;
-        sound = λ act is. save_sound kept call.cwd message call.moment old new act is;
-        refused = λ act fault is ends may sound. save_refused complete call.cwd message call.moment (present old) fault (Reaches act old new) act is ends sound;
-        one = save_is_one single call.cwd message call.moment (present old);
+        leaves = λ act is m. save_leaves laws.remains cwd text moment old new act is m;
+        sound = λ act is. save_sound laws.kept cwd text moment old new act is;
+        refused = λ act fault is ends may sound. save_refused laws.complete cwd text moment (present old) fault (Reaches act old new) act is ends sound;
+        one = save_is_one laws.single cwd text moment (present old);
       }
+  follows (words.Log dataset revision) = log_follows (revision_by revision)
+  follows words.Version = version_follows
+  follows other = help_follows
 
-  pub follows : Follows (command_of call) old new
-  follows = by_words (begins_create call.words)
+-- all other words that are built ask for help
+pub others_help : (cwd : Names) (moment : ℕ) (fresh : List ℕ) (w : Words) → ((d : Option Word) (p : Word) → w ≡ words.Create d p → ⊥)
+    → ((d m f : Option Word) (r g : Bool) (p : List Word) → w ≡ words.Save d m f r g p → ⊥) → ((d r : Option Word) → w ≡ words.Log d r → ⊥) → (w ≡ words.Version → ⊥)
+    → command_of cwd moment fresh w ≡ Help
+others_help cwd moment fresh (words.Create d p) c s l v = absurd (c d p refl)
+others_help cwd moment fresh (words.Save d m f r g p) c s l v = absurd (s d m f r g p refl)
+others_help cwd moment fresh (words.Log d r) c s l v = absurd (l d r refl)
+others_help cwd moment fresh words.Version c s l v = absurd (v refl)
+others_help cwd moment fresh other c s l v = refl

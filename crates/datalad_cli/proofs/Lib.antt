@@ -5,8 +5,10 @@ pub mod Cuts
 pub mod Follows
 pub mod Kept
 pub mod Leads
+pub mod Logging
 pub mod Nearest
 pub mod Printed
+pub mod Readings
 pub mod Roots
 pub mod Soundly
 pub mod Upwards

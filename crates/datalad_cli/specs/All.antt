@@ -3,24 +3,27 @@ pub use Rattle.datalad_cli.specs.Answer.{Call, call_of, device_text, lines_text,
 pub use Rattle.datalad_cli.specs.Answer.{usage_text}
 pub use Rattle.datalad_cli.specs.Answered.{Answered}
 pub use Rattle.datalad_cli.specs.Codes.{code_of}
-pub use Rattle.datalad_cli.specs.Commands.{Asks, CanKeep, Command, Create}
-pub use Rattle.datalad_cli.specs.Commands.{HasOneAct, IsActAt, IsActOf, IsSoundFault, Leaves}
-pub use Rattle.datalad_cli.specs.Commands.{LeavesAt, MayAnswer, MaySay, Misread, Reading, Save}
-pub use Rattle.datalad_cli.specs.Commands.{command_by, command_of, creates, ending_only}
-pub use Rattle.datalad_cli.specs.Commands.{form_reading, reading, wish_of, without_value}
+pub use Rattle.datalad_cli.specs.Commands.{Asks, CanKeep, CarriesOut, Command, Create, HasOneAct}
+pub use Rattle.datalad_cli.specs.Commands.{HasOneReading, Help, IsActIn, IsActOf, IsLogAct}
+pub use Rattle.datalad_cli.specs.Commands.{IsReading, IsSaveAct, IsSoundFault, Leaves, LeavesAt}
+pub use Rattle.datalad_cli.specs.Commands.{Log, MayAnswer, MayIn, MaySay, Misread, Reading, Save}
+pub use Rattle.datalad_cli.specs.Commands.{Version, command_of, creates, ending_by, ending_with}
+pub use Rattle.datalad_cli.specs.Commands.{wish_of, with_text}
 pub use Rattle.datalad_cli.specs.Decides.{CommandSays, EndsCutOff, EndsSaying, HasFault, MayEnd}
 pub use Rattle.datalad_cli.specs.Decides.{WordsDecide}
-pub use Rattle.datalad_cli.specs.Ends.{AtEachMoment, CallEnds, CommandEnds, EndsHalted, KeepsSound}
-pub use Rattle.datalad_cli.specs.Ends.{NoneFailed, RefusesSoundly, StatusCause, StatusEnds}
-pub use Rattle.datalad_cli.specs.Ends.{Telling, WasCutOff, WentAs, World}
-pub use Rattle.datalad_cli.specs.Ends.{ending_text, telling_of, world_of}
-pub use Rattle.datalad_cli.specs.Finding.{head_within, is_root, root_up, stands_within}
+pub use Rattle.datalad_cli.specs.Ends.{AtEachMoment, CommandEnds, EndsHalted, KeepsSound}
+pub use Rattle.datalad_cli.specs.Ends.{NoneFailed, ReadingEnds, RefusesSoundly, StatusCause}
+pub use Rattle.datalad_cli.specs.Ends.{StatusEnds, Telling, WasCutOff, WentAs, World}
+pub use Rattle.datalad_cli.specs.Ends.{ending_text, given_text, telling_of, world_of}
+pub use Rattle.datalad_cli.specs.Finding.{HasRoom, head_within, is_root, root_up, stands_within}
 unfoldable pub use Rattle.datalad_cli.specs.Finding.{root_at}
+unfoldable pub use Rattle.datalad_cli.specs.Help.{help_commands, help_end, help_text, help_usage}
+unfoldable pub use Rattle.datalad_cli.specs.Help.{version_text}
 pub use Rattle.datalad_cli.specs.Reports.{Failure, HasCounted, Heard, OutputCounts, RefusalEnds}
 pub use Rattle.datalad_cli.specs.Reports.{ReportEnds, Says, SaysPart, SomeRose, StandsOrRose}
-pub use Rattle.datalad_cli.specs.Reports.{Tapes, TookPart, TookText, UsageEnds, WasCutShort}
-pub use Rattle.datalad_cli.specs.Reports.{WasHindered, WasUnhindered, of_device, of_memory}
-pub use Rattle.datalad_cli.specs.Reports.{outcome_text}
-pub use Rattle.datalad_cli.specs.Words.{after_create, after_message, after_option, after_save}
-pub use Rattle.datalad_cli.specs.Words.{begins_create, dir_word, leads, message_word}
-unfoldable pub use Rattle.datalad_cli.specs.Words.{is_place, may_be_made, message_of, misread}
+pub use Rattle.datalad_cli.specs.Reports.{Tapes, TextEnds, TookPart, TookText, UsageEnds}
+pub use Rattle.datalad_cli.specs.Reports.{WasCutShort, WasHindered, WasUnhindered, of_device}
+pub use Rattle.datalad_cli.specs.Reports.{of_memory, outcome_gives, outcome_text, printed}
+pub use Rattle.datalad_cli.specs.Words.{leads, message_by, revision_by}
+unfoldable pub use Rattle.datalad_cli.specs.Words.{default_message, is_place, may_be_made}
+unfoldable pub use Rattle.datalad_cli.specs.Words.{message_of}

@@ -7,8 +7,9 @@ use Rattle.faults.specs.declared.lines.Line.{Line}
 use Rattle.faults.specs.declared.faults.Fault.{Fault}
 use Rattle.faults.specs.declared.faults.Trouble.{Trouble}
 use Rattle.faults.specs.declared.faults.Fault.TheVariants.{BadPath, NotADataset}
-use Rattle.acts.specs.All.{Act, Ending, Gives, Refuses, Breaks, Step, still, gives, refuses, bind}
-use Rattle.acts.specs.All.{IsSame}
+use Rattle.acts.specs.All.{Act, ActsAs, Ending, Gives, Refuses, Breaks, Step, still, gives, refuses}
+use Rattle.acts.specs.All.{IsSame, bind}
+use Rattle.file_store.specs.All.{Drive}
 use Rattle.git_objects.specs.declared.ids.Id.{Id}
 use Rattle.repository.specs.All.{repo_of}
 use Rattle.dataset.specs.All.{NoneCollide}
@@ -16,79 +17,129 @@ use Rattle.recursive_save.specs.All.{new_dataset, new_parts, MayCreate, created_
 use Rattle.recursive_save.specs.All.{CreateRemains, IsSave, MaySave, SaveRemains, AreSaveLines}
 use Rattle.recursive_save.specs.All.{dataset_line, IsSoundRefusal}
 use Rattle.recursive_save.specs.declared.wishes.SaveWish.{SaveWish}
+use Rattle.history.specs.All.{IsLogText, LogEnds, MayLog}
+use Rattle.dl_words.specs.All.{AskFor, EndsAt, is_built}
+use Rattle.dl_words.specs.declared.words.Words.{Words}
+use Rattle.dl_words.specs.declared.words.Words.TheVariants as words
 use Rattle.datalad_cli.specs.Answer.{Call}
 use Rattle.datalad_cli.specs.Finding.{root_at}
-use Rattle.datalad_cli.specs.Words.{misread, begins_create, dir_word, leads, message_word}
-use Rattle.datalad_cli.specs.Words.{message_of}
+use Rattle.datalad_cli.specs.Help.{help_text, version_text}
+use Rattle.datalad_cli.specs.Words.{leads, message_by, revision_by}
 
 -- A command, with all that it takes from the words, the working directory, the clock and the random
--- bytes: `create` by where its word leads, if a dataset may be made there; `save` by the working
--- directory, with the commit's message.
+-- bytes: `create` by where its word leads, if a dataset may be made there, and by that word's
+-- index; `save` by the working directory, with the commit's message; `log` by it, with the
+-- revision's word; `--help` and `--version`.
 pub data Command : Type 0 where
-  Create : Option Names → ℕ → List ℕ → Command
+  Create : Option Names → ℕ → ℕ → List ℕ → Command
   Save : Names → List ℕ → ℕ → Command
+  Log : Names → List ℕ → Command
+  Help : Command
+  Version : Command
 
--- What `create` does.
-abbrev pub creates : Option Names → ℕ → List ℕ → Step (Unit {0})
-creates None moment fresh = refuses (BadPath 1)
-creates (Some root) moment fresh =
-    bind (create_step (new_dataset root moment fresh)) (λ _. gives tt)
+-- What `create` does. No command but `log`, `--help` and `--version` gives a text of its own.
+abbrev pub creates : Option Names → ℕ → ℕ → List ℕ → Step (List ℕ)
+creates None at moment fresh = refuses (BadPath at)
+creates (Some root) at moment fresh =
+    bind (create_step (new_dataset root moment fresh)) (λ _. gives [])
 
--- An ending without its value.
-abbrev pub ending_only : {V : Type 0} → Ending V → Ending (Unit {0})
-ending_only (Gives v) = Gives tt
-ending_only (Refuses fault) = Refuses fault
-ending_only (Breaks fault) = Breaks fault
+-- An ending with a text in the place of its value.
+abbrev pub ending_with : {V : Type 0} → List ℕ → Ending V → Ending (List ℕ)
+ending_with text (Gives v) = Gives text
+ending_with text (Refuses fault) = Refuses fault
+ending_with text (Breaks fault) = Breaks fault
 
--- An act without its value.
-abbrev pub without_value : {V : Type 0} → Act V → Act (Unit {0})
-without_value act = record {
+-- An act with a text in the place of its value.
+abbrev pub with_text : {V : Type 0} → List ℕ → Act V → Act (List ℕ)
+with_text text act = record {
   events = act.events;
   loose = act.loose;
   safe = act.safe;
-  ending = ending_only act.ending;
+  ending = ending_with text act.ending;
 }
 
 -- What is asked of a save.
 abbrev pub wish_of : List ℕ → ℕ → SaveWish
 wish_of message moment = record { message = message; moment = moment }
 
--- An act of `save`, by the root of the dataset in which its directory lies.
-abbrev pub IsActAt : Names → SaveWish → Ground → Option Names → Act (Unit {0}) → Type 0
-IsActAt cwd wish g None act = act ≡ still (Refuses (NotADataset cwd))
-IsActAt cwd wish g (Some root) act =
-    (saved : Act (Option Id)) × IsSave root wish g saved × (act ≡ without_value saved)
+-- An act of `save` in a dataset.
+abbrev pub IsSaveAct : SaveWish → Ground → Names → Act (List ℕ) → Type 0
+IsSaveAct wish g root act =
+    (saved : Act (Option Id)) × IsSave root wish g saved × (act ≡ with_text [] saved)
+
+-- The ending by what a reading comes to.
+abbrev pub ending_by : Result (List ℕ) Fault → Ending (List ℕ)
+ending_by (Ok text) = Gives text
+ending_by (Err fault) = Refuses fault
+
+-- An act of `log` in a dataset: nothing is done.
+abbrev pub IsLogAct : List ℕ → Ground → Names → Act (List ℕ) → Type 0
+IsLogAct word g root act =
+    (end : Result (List ℕ) Fault) × LogEnds (repo_of root) word g end
+    × (act ≡ still (ending_by end))
+
+-- An act of a command that works in the dataset in which its directory lies, by the dataset's root:
+-- refused where there is none.
+abbrev pub IsActIn : Names → (Names → Act (List ℕ) → Type 0) → Option Names → Act (List ℕ) → Type 0
+IsActIn cwd IsIts None act = act ≡ still (Refuses (NotADataset cwd))
+IsActIn cwd IsIts (Some root) act = IsIts root act
 
 -- An act is one of the command's, at a ground.
-abbrev pub IsActOf : Command → Ground → Act (Unit {0}) → Type 0
-IsActOf (Create dir moment fresh) g act = act ≡ creates dir moment fresh g
+abbrev pub IsActOf : Command → Ground → Act (List ℕ) → Type 0
+IsActOf (Create dir at moment fresh) g act = act ≡ creates dir at moment fresh g
 IsActOf (Save cwd message moment) g act =
-    IsActAt cwd (wish_of message moment) g (root_at cwd g) act
+    IsActIn cwd (IsSaveAct (wish_of message moment) g) (root_at cwd g) act
+IsActOf (Log cwd word) g act = IsActIn cwd (IsLogAct word g) (root_at cwd g) act
+IsActOf Help g act = act ≡ still (Gives help_text)
+IsActOf Version g act = act ≡ still (Gives version_text)
 
 -- A command has one act at most, at a ground.
 abbrev pub HasOneAct : Command → Ground → Type 0
 HasOneAct command g =
-    (one two : Act (Unit {0})) → IsActOf command g one → IsActOf command g two → one ≡ two
+    (one two : Act (List ℕ)) → IsActOf command g one → IsActOf command g two → one ≡ two
+
+-- A fault of a command that works in the dataset in which its directory lies: there is none, or it
+-- is one of the command's at a root above.
+abbrev pub MayIn : Names → (Names → Type 0) → Fault → Type 0
+MayIn cwd MayAt fault =
+    (fault ≡ NotADataset cwd) ⊎ ((root : Names) × IsAtOrAbove root cwd × MayAt root)
 
 -- The faults that a command may answer, whatever the files tell.
 abbrev pub MayAnswer : Bool → Command → Fault → Type 0
-MayAnswer tells (Create None moment fresh) fault = fault ≡ BadPath 1
-MayAnswer tells (Create (Some root) moment fresh) fault =
+MayAnswer tells (Create None at moment fresh) fault = fault ≡ BadPath at
+MayAnswer tells (Create (Some root) at moment fresh) fault =
     MayCreate tells (new_dataset root moment fresh) fault
 MayAnswer tells (Save cwd message moment) fault =
-    (fault ≡ NotADataset cwd)
-    ⊎ ((root : Names) × IsAtOrAbove root cwd × MaySave tells root fault)
+    MayIn cwd (λ root. MaySave tells root fault) fault
+MayAnswer tells (Log cwd word) fault = MayIn cwd (λ root. MayLog (repo_of root) word fault) fault
+MayAnswer tells Help fault = ⊥
+MayAnswer tells Version fault = ⊥
 
--- The lines that a command says by its ending, whatever the files tell: a save that is done says
--- those of its commit, or that the dataset needs no save.
-abbrev pub MaySay : Command → List Line → Result (Unit {0}) Trouble → Type 0
-MaySay (Create None moment fresh) lines (Ok _) = ⊥
-MaySay (Create None moment fresh) lines (Err trouble) = lines ≡ []
-MaySay (Create (Some root) moment fresh) lines (Ok _) = lines ≡ created_line root ∷ []
-MaySay (Create (Some root) moment fresh) lines (Err trouble) = lines ≡ []
-MaySay (Save cwd message moment) lines (Ok _) =
-    AreSaveLines lines ⊎ (lines ≡ dataset_line (codes "notneeded") ∷ [])
+-- A call carries out a command: it goes as one of the command's acts, or is halted before.
+abbrev pub CarriesOut : Bool → Command → List Line → List Line → Drive → Drive
+    → Result (List ℕ) Trouble → Type 0
+CarriesOut tells command before after old new result =
+    ActsAs (λ fault. MayAnswer tells command fault) tells (λ g act. IsActOf command g act) before
+    after old new result
+
+-- The lines that a command says by its ending, and the text that it gives, whatever the files tell:
+-- a save that is done says those of its commit, or that the dataset needs no save; a log is the
+-- lines of commits that follow one another.
+abbrev pub MaySay : Command → List Line → Result (List ℕ) Trouble → Type 0
+MaySay (Create None at moment fresh) lines (Ok text) = ⊥
+MaySay (Create None at moment fresh) lines (Err trouble) = lines ≡ []
+MaySay (Create (Some root) at moment fresh) lines (Ok text) =
+    (text ≡ []) × (lines ≡ created_line root ∷ [])
+MaySay (Create (Some root) at moment fresh) lines (Err trouble) = lines ≡ []
+MaySay (Save cwd message moment) lines (Ok text) =
+    (text ≡ []) × (AreSaveLines lines ⊎ (lines ≡ dataset_line (codes "notneeded") ∷ []))
 MaySay (Save cwd message moment) lines (Err trouble) = lines ≡ []
+MaySay (Log cwd word) lines (Ok text) = IsLogText text × (lines ≡ [])
+MaySay (Log cwd word) lines (Err trouble) = lines ≡ []
+MaySay Help lines (Ok text) = (text ≡ help_text) × (lines ≡ [])
+MaySay Help lines (Err trouble) = lines ≡ []
+MaySay Version lines (Ok text) = (text ≡ version_text) × (lines ≡ [])
+MaySay Version lines (Err trouble) = lines ≡ []
 
 -- What a save leaves, by the root of the dataset in which its directory lies: nothing has changed
 -- where there is none.
@@ -101,23 +152,33 @@ LeavesAt (Some root) end Else g x = SaveRemains root end Else g x
 -- a crash leaves, `end` the ground to which the command's act comes, and at a place that was open
 -- at the start x may have something else.
 abbrev pub Leaves : Command → Ground → (Names → Option (List ℕ) → Type 0) → Ground → Ground → Type 0
-Leaves (Create None moment fresh) end Else g x = IsSame Else g x
-Leaves (Create (Some root) moment fresh) end Else g x =
+Leaves (Create None at moment fresh) end Else g x = IsSame Else g x
+Leaves (Create (Some root) at moment fresh) end Else g x =
     CreateRemains (new_dataset root moment fresh) Else g x
 Leaves (Save cwd message moment) end Else g x = LeavesAt (root_at cwd g) end Else g x
+Leaves (Log cwd word) end Else g x = IsSame Else g x
+Leaves Help end Else g x = IsSame Else g x
+Leaves Version end Else g x = IsSame Else g x
 
 -- What must be so, beside a sound ground, that a command keeps it sound: of a `create`, that no two
 -- of its four objects have one id.
 abbrev pub CanKeep : Command → Type 0
-CanKeep (Create None moment fresh) = Unit {0}
-CanKeep (Create (Some root) moment fresh) =
+CanKeep (Create None at moment fresh) = Unit {0}
+CanKeep (Create (Some root) at moment fresh) =
     NoneCollide (repo_of root) (new_parts (new_dataset root moment fresh)).objects
 CanKeep (Save cwd message moment) = Unit {0}
+CanKeep (Log cwd word) = Unit {0}
+CanKeep Help = Unit {0}
+CanKeep Version = Unit {0}
 
 -- The faults for which a command may be refused on a sound ground.
 abbrev pub IsSoundFault : Command → Fault → Type 0
-IsSoundFault (Create dir moment fresh) fault = MayAnswer true (Create dir moment fresh) fault
+IsSoundFault (Create dir at moment fresh) fault =
+    MayAnswer true (Create dir at moment fresh) fault
 IsSoundFault (Save cwd message moment) fault = (fault ≡ NotADataset cwd) ⊎ IsSoundRefusal fault
+IsSoundFault (Log cwd word) fault = MayAnswer true (Log cwd word) fault
+IsSoundFault Help fault = ⊥
+IsSoundFault Version fault = ⊥
 
 -- What the words of a call ask for: nothing, by the index of the first word that has no reading; or
 -- a command.
@@ -125,20 +186,27 @@ pub data Reading : Type 0 where
   Misread : ℕ → Reading
   Asks : Command → Reading
 
--- The command of words that have a reading, by whether they begin with `create`.
-abbrev pub command_by : Call → Bool → Command
-command_by call true = Create (leads call.cwd (dir_word call.words)) call.moment call.fresh
-command_by call false = Save call.cwd (message_of (message_word call.words)) call.moment
+-- The command of words that are built, by the working directory, the moment and the random bytes;
+-- of all others nothing is done.
+abbrev pub command_of : Names → ℕ → List ℕ → Words → Command
+command_of cwd moment fresh (words.Create dataset path) =
+    Create (leads cwd path.text) path.index moment fresh
+command_of cwd moment fresh (words.Save dataset message message_file recursive to_git paths) =
+    Save cwd (message_by message) moment
+command_of cwd moment fresh (words.Log dataset revision) = Log cwd (revision_by revision)
+command_of cwd moment fresh words.Version = Version
+command_of cwd moment fresh other = Help
 
--- The same, by its words.
-abbrev pub command_of : Call → Command
-command_of call = command_by call (begins_create call.words)
+-- The reading of a call's words: the first word at which none goes on; word 0, where they ask for
+-- what isn't built; or the command that they ask for.
+abbrev pub IsReading : Call → Reading → Type 0
+IsReading call (Misread at) =
+    EndsAt call.words at
+    ⊎ ((asked : Words) × AskFor call.words asked × (is_built asked ≡ false) × (at ≡ 0))
+IsReading call (Asks command) =
+    (asked : Words) × AskFor call.words asked × (is_built asked ≡ true)
+    × (command ≡ command_of call.cwd call.moment call.fresh asked)
 
--- The reading, by the first word that has none.
-abbrev pub form_reading : Call → Option ℕ → Reading
-form_reading call (Some at) = Misread at
-form_reading call None = Asks (command_of call)
-
--- The reading of a call's words.
-abbrev pub reading : Call → Reading
-reading call = form_reading call (misread call.words)
+-- Words have one reading at most.
+abbrev pub HasOneReading : Call → Type 0
+HasOneReading call = (one two : Reading) → IsReading call one → IsReading call two → one ≡ two

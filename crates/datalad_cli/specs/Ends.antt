@@ -1,4 +1,4 @@
--- How a call of the program ends.
+-- How a call of the program ends, by the reading of its words.
 use Rattle.std.specs.Prelude.{◌≡◌, ◌⊎◌, ℕ, Bool, IsTrue, List, [], ◌++◌}
 use Rattle.file_store.specs.All.{Rose, Drive, Since, IsImage, LiesAlong, WasOpen, finally, Tape}
 use Rattle.file_store.specs.All.{present}
@@ -35,31 +35,39 @@ abbrev pub telling_of : Bool → Bool → Bool → Telling
 telling_of files out err = record { files = files; heard = record { out = out; err = err } }
 
 -- The text of an ending on the second output.
-abbrev pub ending_text : Ending (Unit {0}) → List ℕ
-ending_text (Gives _) = []
+abbrev pub ending_text : Ending (List ℕ) → List ℕ
+ending_text (Gives text) = []
 ending_text (Refuses fault) = fault_text fault
 ending_text (Breaks fault) = fault_text fault
 
+-- The text that an ending gives to the first output, after the lines.
+abbrev pub given_text : Ending (List ℕ) → List ℕ
+given_text (Gives text) = text
+given_text (Refuses fault) = []
+given_text (Breaks fault) = []
+
 -- A command that a failure cut off: some first events are done; the first output has a first part
--- of their lines, and the second one the text of the failure, or a first part of the act's own text
--- if it failed itself; and what stands lies along the rounds of the rest. So a line that was told
--- goes with what stands.
-pub record WasCutOff (heard : Heard) (act : Act (Unit {0})) (failure : Failure) (old new : World)
+-- of their lines, and of the text that the act gives where all events are done, and the second one
+-- the text of the failure, or a first part of the act's own text if it failed itself; and what
+-- stands lies along the rounds of the rest. So a line that was told goes with what stands.
+pub record WasCutOff (heard : Heard) (act : Act (List ℕ)) (failure : Failure) (old new : World)
     : Type 0 where
   pub done : List Event
   pub rest : List Event
   pub splits : act.events ≡ done ++ rest
+  pub text : List ℕ
+  pub given : (text ≡ []) ⊎ ((rest ≡ []) × (text ≡ given_text act.ending))
   pub lies : LiesAlong (IsFirm act.loose) old.drive.history.latest
       (finally (rounds_of done) (present old.drive)) (rounds_of rest) new.drive.history.latest
-  pub says : SaysPart heard (lines_text (lines_of done))
+  pub says : SaysPart heard (lines_text (lines_of done) ++ text)
       (ending_text act.ending) failure old.tapes new.tapes
 
 -- The status and the texts are the act's, and after Done and a refusal before a round its last
 -- ground stands; or the command was cut off.
-abbrev pub StatusEnds : Heard → Act (Unit {0}) → World → World → Status → Type 0
+abbrev pub StatusEnds : Heard → Act (List ℕ) → World → World → Status → Type 0
 StatusEnds heard act old new Done =
-    (act.ending ≡ Gives tt) × Reaches act old.drive new.drive
-    × Says heard (lines_text (lines_in act)) [] old.tapes new.tapes
+    (text : List ℕ) × (act.ending ≡ Gives text) × Reaches act old.drive new.drive
+    × Says heard (lines_text (lines_in act) ++ text) [] old.tapes new.tapes
 StatusEnds heard act old new (Refused fault) =
     EndsRefused act.ending fault (Reaches act old.drive new.drive)
     × Says heard (lines_text (lines_in act)) (fault_text fault) old.tapes new.tapes
@@ -98,7 +106,7 @@ StatusCause old new (CommandFailed got) = ⊥
 
 -- At every moment of a command since its start, by an act of it: the disk lies along the act's
 -- rounds; and what stands then, and each ground that a crash may leave, is what the command leaves.
-pub record AtEachMoment (command : Command) (act : Act (Unit {0})) (old new : Drive) : Type 0 where
+pub record AtEachMoment (command : Command) (act : Act (List ℕ)) (old new : Drive) : Type 0 where
   pub along : Moments act old new
   pub stands : Since (λ d. Leaves command (last_of act (present old)) Nothing (present old) d.now)
       old.history new.history
@@ -108,7 +116,7 @@ pub record AtEachMoment (command : Command) (act : Act (Unit {0})) (old new : Dr
 -- From a sound ground and a settled disk, at every moment what stands and what a crash leaves is
 -- sound, has the heads of one of the act's grounds, and has lost no object; and when the act is
 -- done the ground is sound and the disk settled again.
-abbrev pub KeepsSound : Command → Act (Unit {0}) → Drive → Drive → Type 0
+abbrev pub KeepsSound : Command → Act (List ℕ) → Drive → Drive → Type 0
 KeepsSound command act old new =
     CanKeep command → Sound (present old) → IsSettled old.history.latest → StaysSound act old new
 
@@ -122,7 +130,7 @@ RefusesSoundly command g (Usage at) = ⊥
 RefusesSoundly command g (CommandFailed got) = ⊥
 
 -- A command went as one of its acts: it ends as the act does, and it goes so at every moment.
-pub record WentAs (heard : Heard) (command : Command) (act : Act (Unit {0})) (old new : World)
+pub record WentAs (heard : Heard) (command : Command) (act : Act (List ℕ)) (old new : World)
     (status : Status)
     : Type 0 where
   pub own : IsActOf command (present old.drive) act
@@ -137,14 +145,14 @@ pub record CommandEnds (telling : Telling) (command : Command) (old new : World)
     : Type 0 where
   pub cause : StatusCause old new status
   pub told : IsTrue telling.files → EndsHalted telling.heard old new status
-      ⊎ ((act : Act (Unit {0})) × WentAs telling.heard command act old new status)
+      ⊎ ((act : Act (List ℕ)) × WentAs telling.heard command act old new status)
   pub one : HasOneAct command (present old.drive)
 
 -- Words without a reading touch the second output alone; a command ends as its act does.
-abbrev pub CallEnds : Telling → Reading → World → World → Status → Type 0
-CallEnds telling (Misread at) old new status =
+abbrev pub ReadingEnds : Telling → Reading → World → World → Status → Type 0
+ReadingEnds telling (Misread at) old new status =
     (new.drive ≡ old.drive) × (new.tapes.out ≡ old.tapes.out)
     × OutputCounts status old.tapes.err new.tapes.err
     × UsageEnds telling.heard.err at old.tapes.err new.tapes.err status
-CallEnds telling (Asks command) old new status =
+ReadingEnds telling (Asks command) old new status =
     CommandEnds telling command old new status

@@ -1,13 +1,17 @@
 -- The root of the dataset in which a place lies.
-use Rattle.std.specs.Prelude.{Bool, false, [], ◌∷◌, length, nat_lt, Option, Some}
-use Rattle.std.specs.Prelude.{None, if◌then◌else◌, reverse}
-use Rattle.places.specs.All.{Names, Ground, text_of, stands, longest}
+use Rattle.std.specs.Prelude.{◌≤◌, Bool, false, [], ◌∷◌, length, nat_lt, Option, Some, None, codes}
+use Rattle.std.specs.Prelude.{if◌then◌else◌, reverse}
+use Rattle.places.specs.All.{Names, Ground, text_of, joined, stands, longest}
 use Rattle.repository.specs.All.{head_place}
 
 -- The place of HEAD in a dataset's repository, where it isn't longer than places are.
 abbrev pub head_within : Names → Option Names
 head_within root =
     if nat_lt longest (length (text_of (head_place root))) then None else Some (head_place root)
+
+-- HEAD has a place in the repository of a root.
+abbrev pub HasRoom : Names → Type 0
+HasRoom root = length (joined root (codes ".dlrepo/HEAD")) ≤ longest
 
 -- Whether a file stands at a place, where there is one.
 abbrev pub stands_within : Ground → Option Names → Bool

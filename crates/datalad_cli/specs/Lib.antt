@@ -6,5 +6,6 @@ pub mod Commands
 pub mod Decides
 pub mod Ends
 pub mod Finding
+pub mod Help
 pub mod Reports
 pub mod Words

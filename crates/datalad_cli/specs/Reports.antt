@@ -98,31 +98,45 @@ pub record SaysPart (heard : Heard) (out err : List ℕ) (failure : Failure) (ol
       WasCutShort failure old.err new.err err ⊎ TookText old.err new.err failure.text
 
 -- The second text of a command that ended so.
-abbrev pub outcome_text : Result (Unit {0}) Trouble → List ℕ
-outcome_text (Ok _) = []
+abbrev pub outcome_text : Result (List ℕ) Trouble → List ℕ
+outcome_text (Ok text) = []
 outcome_text (Err (RefusedBy fault)) = fault_text fault
 outcome_text (Err ByDevice) = []
 outcome_text (Err ByMemory) = []
+
+-- The text that an outcome gives to the first output, after the lines.
+abbrev pub outcome_gives : Result (List ℕ) Trouble → List ℕ
+outcome_gives (Ok text) = text
+outcome_gives (Err trouble) = []
+
+-- The first text of a command: its lines, and then what it gives.
+abbrev pub printed : List Line → Result (List ℕ) Trouble → List ℕ
+printed lines outcome = lines_text lines ++ outcome_gives outcome
 
 -- A count of faults of an output rose.
 abbrev pub SomeRose : Tapes → Tapes → Type 0
 SomeRose old new = Rose old.out.faults new.out.faults ⊎ Rose old.err.faults new.err.faults
 
--- The status is the outcome's, with its texts; or a device failed or memory was wanting, with first
--- parts of them and the text of that failure.
-abbrev pub ReportEnds : Heard → List Line → Result (Unit {0}) Trouble → Tapes → Tapes → Status
-    → Type 0
-ReportEnds heard lines outcome old new Done =
-    (outcome ≡ Ok tt) × Says heard (lines_text lines) [] old new
-ReportEnds heard lines outcome old new (Refused fault) =
-    (outcome ≡ Err (RefusedBy fault)) × Says heard (lines_text lines) (fault_text fault) old new
-ReportEnds heard lines outcome old new Device =
+-- The status is the outcome's, with this first text and its own second one; or a device failed or
+-- memory was wanting, with first parts of them and the text of that failure.
+abbrev pub TextEnds : Heard → List ℕ → Result (List ℕ) Trouble → Tapes → Tapes → Status → Type 0
+TextEnds heard out outcome old new Done =
+    (text : List ℕ) × (outcome ≡ Ok text) × Says heard out [] old new
+TextEnds heard out outcome old new (Refused fault) =
+    (outcome ≡ Err (RefusedBy fault)) × Says heard out (fault_text fault) old new
+TextEnds heard out outcome old new Device =
     ((outcome ≡ Err ByDevice) ⊎ SomeRose old new)
-    × SaysPart heard (lines_text lines) (outcome_text outcome) of_device old new
-ReportEnds heard lines outcome old new NoMemory =
-    SaysPart heard (lines_text lines) (outcome_text outcome) of_memory old new
-ReportEnds heard lines outcome old new (Usage at) = ⊥
-ReportEnds heard lines outcome old new (CommandFailed got) = ⊥
+    × SaysPart heard out (outcome_text outcome) of_device old new
+TextEnds heard out outcome old new NoMemory =
+    SaysPart heard out (outcome_text outcome) of_memory old new
+TextEnds heard out outcome old new (Usage at) = ⊥
+TextEnds heard out outcome old new (CommandFailed got) = ⊥
+
+-- The same of a command's lines and its outcome.
+abbrev pub ReportEnds : Heard → List Line → Result (List ℕ) Trouble → Tapes → Tapes → Status
+    → Type 0
+ReportEnds heard lines outcome old new status =
+    TextEnds heard (printed lines outcome) outcome old new status
 
 -- A refused command's text on the second output; where no memory was found for it, the text of
 -- that failure.

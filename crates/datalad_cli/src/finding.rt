@@ -1,9 +1,10 @@
 // The dataset in which a place lies.
-ghost use Rattle.std.specs.Prelude.{◌≡◌, ◌++◌, ◌∷◌, [], ℕ, List, IfOk, MatchOption, Some, None};
+ghost use Rattle.std.specs.Prelude.{◌≡◌, ◌++◌, ◌∷◌, [], ℕ, List, IfOk, IfSome, IsTrue, MatchOption, Some, None};
 ghost use Rattle.places.specs.All.{IsAtOrAbove};
 ghost use Rattle.acts.specs.All.{NoFault, Reads};
+ghost use Rattle.repository.specs.All.{repo_of};
 ghost use Rattle.faults.specs.declared.faults.Fault.TheVariants.{NotADataset};
-ghost use Rattle.datalad_cli.specs.Finding.{head_within, is_root, root_at};
+ghost use Rattle.datalad_cli.specs.Finding.{HasRoom, head_within, is_root, root_at};
 
 use faults::{Fault, Trouble};
 use file_store::{Files, Place};
@@ -15,7 +16,8 @@ const PLACE_LIMIT: usize = 4096;
 // Where HEAD would stand, None where that is longer than places are.
 #[tactic(auto, unfolding(places::specs::Names::is_path, places::specs::Names::is_name))]
 fn head_within(alloc: Global, root: &Place) -> Result<Option<Place>, AllocError>
-    ensures { IfOk result (λ found. found ≡ head_within root.now) }
+    ensures place { IfOk result (λ found. found ≡ head_within root.now) }
+    ensures room { IfOk result (λ found. IfSome found (λ _. HasRoom root.now)) }
 {
     let head = root.joined(alloc, ".dlrepo/HEAD")?;
     if PLACE_LIMIT < head.len() {
@@ -26,8 +28,9 @@ fn head_within(alloc: Global, root: &Place) -> Result<Option<Place>, AllocError>
 
 // Whether a dataset has its root there.
 fn is_root<F: Files>(alloc: Global, files: &mut F, place: &Place) -> Result<bool, Trouble>
-    ensures { Reads NoFault F.tells (λ g answer. answer ≡ is_root g place.now) (λ g fault. NoFault fault)
+    ensures reads { Reads NoFault F.tells (λ g answer. answer ≡ is_root g place.now) (λ g fault. NoFault fault)
         (F.drive files.old) (F.drive files.new) result }
+    ensures room { IfOk result (λ answer. IsTrue answer → HasRoom place.now) }
 {
     match head_within(alloc, place)? {
         None => Ok(false),
@@ -51,6 +54,7 @@ fn root_from<F: Files>(alloc: Global, files: &mut F, place: Place) -> Result<Opt
     ensures reads { Reads NoFault F.tells (λ g root. root ≡ root_at place g) (λ g fault. NoFault fault)
         (F.drive files.old) (F.drive files.new) result }
     ensures above { IfOk result (λ found. MatchOption found (Unit {0}) (λ root. IsAtOrAbove root place)) }
+    ensures room { IfOk result (λ found. IfSome found (λ root. HasRoom root)) }
 {
     if is_root(alloc, files, &place)? {
         return Ok(Some(place));
@@ -59,6 +63,15 @@ fn root_from<F: Files>(alloc: Global, files: &mut F, place: Place) -> Result<Opt
         None => Ok(None),
         Some(up) => root_from(alloc, files, up),
     }
+}
+
+/// The repository of a root in which HEAD has a place.
+#[tactic(auto, unfolding(places::specs::Names::is_path, places::specs::Names::is_name))]
+pub(crate) fn repo_within(alloc: Global, root: &Place) -> Result<Place, AllocError>
+    requires { HasRoom root.now }
+    ensures { IfOk result (λ repo. repo ≡ repo_of root.now) }
+{
+    root.below(alloc, ".dlrepo")
 }
 
 /// The root of the dataset in which a place lies: the nearest place, at or above it, at whose `.dlrepo/HEAD` a file
@@ -71,8 +84,10 @@ pub(crate) fn find_root<F: Files>(
     cwd: &Place,
 ) -> Result<Place, Trouble>
     ensures reads { Reads (λ fault. fault ≡ NotADataset cwd.now) F.tells (λ g root. root_at cwd.now g ≡ Some root)
-        (λ g fault. (root_at cwd.now g ≡ None) × (fault ≡ NotADataset cwd.now)) (F.drive files.old) (F.drive files.new) result }
+        (λ g fault. (root_at cwd.now g ≡ None) × (fault ≡ NotADataset cwd.now)) (F.drive files.old)
+        (F.drive files.new) result }
     ensures above { IfOk result (λ root. IsAtOrAbove root cwd.now) }
+    ensures room { IfOk result (λ root. HasRoom root) }
 {
     let start = cwd.try_clone(alloc)?;
     let place = cwd.try_clone(alloc)?;

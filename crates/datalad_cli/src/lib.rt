@@ -3,6 +3,7 @@
 
 mod ended;
 mod finding;
+mod help;
 mod reporting;
 mod status;
 mod top;

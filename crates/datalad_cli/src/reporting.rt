@@ -1,13 +1,14 @@
-// Printing what came of a call: the result lines, then the text of the ending.
+// Printing what came of a call: the result lines and what is given, then the text of the ending.
 ghost use Rattle.std.specs.Prelude.{◌≡◌, IsTrue, IfOk, string_bytes};
 ghost use Rattle.faults.specs.All.{line_text as line_of};
 ghost use Rattle.datalad_cli.specs.Answer.{lines_text as lines_of, device_text, memory_text, usage_text as usage_of};
-ghost use Rattle.datalad_cli.specs.Reports.{HasCounted, TookText, OutputCounts, UsageEnds, RefusalEnds, ReportEnds};
+ghost use Rattle.datalad_cli.specs.Reports.{HasCounted, TookText, OutputCounts, UsageEnds, RefusalEnds, ReportEnds, TextEnds};
+ghost use Rattle.datalad_cli.specs.Reports.{outcome_gives, printed};
 ghost use Rattle.datalad_cli.specs.declared.status.Status.TheVariants.{Device, NoMemory};
 
 use crate::status::Status;
 use faults::{Fault, Line, Trouble, fault_text};
-use file_store::{PlaceErr, Sink, SinkErr, write_whole};
+use file_store::{Bytes, PlaceErr, Sink, SinkErr, write_whole};
 use std::alloc::{AllocError, Global};
 
 // All lines, one after the other.
@@ -31,6 +32,29 @@ fn line_text(alloc: Global, line: &Line) -> Result<String, AllocError>
     }
 }
 
+// The text that an outcome gives.
+fn given(outcome: &Result<Bytes, Trouble>) -> &[u8]
+    ensures { result.now ≡ outcome_gives outcome.now }
+{
+    match outcome {
+        Ok(text) => text.as_slice(),
+        Err(_) => b"",
+    }
+}
+
+// The lines, and then what the outcome gives.
+fn printed(
+    alloc: Global,
+    lines: &[Line],
+    outcome: &Result<Bytes, Trouble>,
+) -> Result<Vec<u8>, AllocError>
+    ensures { IfOk result (λ text. text.items ≡ printed lines.now outcome.now) }
+{
+    let mut text = lines_text(alloc, lines)?.into_bytes();
+    text.extend_from_slice(given(outcome))?;
+    Ok(text)
+}
+
 fn usage_text(alloc: Global, at: u64) -> Result<String, AllocError>
     ensures { IfOk result (λ text. string_bytes text ≡ usage_of at) }
 {
@@ -47,8 +71,8 @@ fn failed<S: Sink>(sink: &mut S) -> Status
     Status::Device
 }
 
-// The ending where memory was wanting.
-fn starved<S: Sink>(sink: &mut S) -> Status
+/// The ending where memory was wanting.
+pub(crate) fn starved<S: Sink>(sink: &mut S) -> Status
     ensures later { HasCounted (S.tape sink.old) (S.tape sink.new) }
     ensures status { result ≡ NoMemory }
     ensures text { IsTrue S.tells → TookText (S.tape sink.old) (S.tape sink.new) memory_text }
@@ -87,13 +111,46 @@ fn say_refused<S: Sink>(alloc: Global, sink: &mut S, fault: Fault) -> Status
     }
 }
 
-/// Prints the lines, and then what the outcome says.
+// Prints a text, and then what the outcome says.
+fn tell<O: Sink, E: Sink>(
+    alloc: Global,
+    out: &mut O,
+    err: &mut E,
+    text: &[u8],
+    outcome: Result<Bytes, Trouble>,
+) -> Status
+    ensures out_later { OutputCounts result (O.tape out.old) (O.tape out.new) }
+    ensures err_later { OutputCounts result (E.tape err.old) (E.tape err.new) }
+    ensures ends { TextEnds (record { out = O.tells; err = E.tells }) text.now outcome
+        (record { out = O.tape out.old; err = E.tape err.old })
+        (record { out = O.tape out.new; err = E.tape err.new }) result }
+{
+    match write_whole(out, text) {
+        Ok(()) => {}
+        Err(SinkErr::Failed) => {
+            drop(outcome);
+            return failed(err);
+        }
+        Err(SinkErr::NoMemory) => {
+            drop(outcome);
+            return starved(err);
+        }
+    }
+    match outcome {
+        Ok(_text) => Status::Done,
+        Err(Trouble::Refused(fault)) => say_refused(alloc, err, fault),
+        Err(Trouble::Device) => failed(err),
+        Err(Trouble::NoMemory) => starved(err),
+    }
+}
+
+/// Prints the lines and what the outcome gives, and then what it says.
 pub(crate) fn report<O: Sink, E: Sink>(
     alloc: Global,
     out: &mut O,
     err: &mut E,
     lines: &[Line],
-    outcome: Result<(), Trouble>,
+    outcome: Result<Bytes, Trouble>,
 ) -> Status
     ensures out_later { OutputCounts result (O.tape out.old) (O.tape out.new) }
     ensures err_later { OutputCounts result (E.tape err.old) (E.tape err.new) }
@@ -101,19 +158,11 @@ pub(crate) fn report<O: Sink, E: Sink>(
         (record { out = O.tape out.old; err = E.tape err.old })
         (record { out = O.tape out.new; err = E.tape err.new }) result }
 {
-    let text = match lines_text(alloc, lines) {
-        Ok(text) => text,
-        Err(_) => return starved(err),
-    };
-    match write_whole(out, text.as_str().as_bytes()) {
-        Ok(()) => {}
-        Err(SinkErr::Failed) => return failed(err),
-        Err(SinkErr::NoMemory) => return starved(err),
-    }
-    match outcome {
-        Ok(()) => Status::Done,
-        Err(Trouble::Refused(fault)) => say_refused(alloc, err, fault),
-        Err(Trouble::Device) => failed(err),
-        Err(Trouble::NoMemory) => starved(err),
+    match printed(alloc, lines, &outcome) {
+        Ok(text) => tell(alloc, out, err, text.as_slice(), outcome),
+        Err(_) => {
+            drop(outcome);
+            starved(err)
+        }
     }
 }

@@ -1,118 +1,194 @@
 // The top call: one command, from its words to its two texts and its status.
-ghost use Rattle.std.specs.Prelude.{◌≡◌, [], map, string_bytes, IsTrue};
-ghost use Rattle.acts.specs.All.{Acts, ActsAs};
+ghost use Rattle.std.specs.Prelude.{◌≡◌, ℕ, List, [], map, string_bytes};
+ghost use Rattle.acts.specs.All.{Acts};
 ghost use Rattle.recursive_save.specs.All.{CreateKeepsSound, SaveIsComplete, SaveIsOne, SaveKeeps, SaveKeepsSound};
+ghost use Rattle.history.specs.All.{LogIsOne};
+ghost use Rattle.dl_words.specs.All.{AskFor, AskOnce, EndsOnce, HaveMeaning};
+ghost use Rattle.faults.specs.declared.faults.Fault.TheVariants.{BadPath};
 ghost use Rattle.datalad_cli.specs.Answer.{call_of};
-ghost use Rattle.datalad_cli.specs.Commands.{Create, Save, creates, command_of, IsActOf, MayAnswer, MaySay, reading};
-ghost use Rattle.datalad_cli.specs.Decides.{WordsDecide};
-ghost use Rattle.datalad_cli.specs.Ends.{CallEnds, telling_of, world_of};
-ghost use Rattle.datalad_cli.specs.Words.{leads, message_of};
+ghost use Rattle.datalad_cli.specs.Answered.{Answered};
+ghost use Rattle.datalad_cli.specs.Commands.{CarriesOut, Create, Log, MayAnswer, MaySay, Save, command_of, creates};
+ghost use Rattle.datalad_cli.specs.Ends.{telling_of, world_of};
+ghost use Rattle.datalad_cli.specs.Words.{leads, message_by, revision_by};
 
-use crate::finding::find_root;
-use crate::reporting::{report, say_usage};
+use crate::finding::{find_root, repo_within};
+use crate::help::{help, version};
+use crate::reporting::{report, say_usage, starved};
 use crate::status::Status;
-use crate::words::{begins_create, dir_of, message_of, message_word, misread_at, root_of};
+use crate::words::{message_by, revision_by, root_of};
+use dl_words::{Word, Words, WordsErr, ends_once, have_meaning, is_built, one_meaning, read_words};
 use faults::{Fault, Line, Trouble};
-use file_store::{Files, Place, Sink};
+use file_store::{Bytes, Files, Place, Sink};
+use history::{log, log_is_one};
 use recursive_save::{
     SaveWish, create, create_keeps_sound, save, save_is_complete, save_is_one, save_keeps_sound,
     save_remains,
 };
 use std::alloc::Global;
 
+// The refusal of a word that leads to no place where a dataset may be made.
+fn bad_path(path: &Word) -> Fault
+    ensures { result ≡ BadPath path.now.index }
+{
+    Fault::BadPath { at: path.index }
+}
+
+// The text of a command that gives none.
+fn no_text(alloc: Global) -> Bytes
+    ensures { result ≡ [] }
+{
+    Bytes::new(Vec::new(alloc))
+}
+
 // `create` of a word.
 fn create_at<F: Files>(
     alloc: Global,
     files: &mut F,
     cwd: &Place,
-    word: &str,
+    path: &Word,
     moment: u64,
     fresh: &[u8; 16],
     lines: &mut Vec<Line>,
-) -> Result<(), Trouble>
+) -> Result<Bytes, Trouble>
     requires { lines.old.items ≡ [] }
-    ensures says { MaySay (Create (leads cwd.now word.now) moment fresh.now) lines.new.items result }
-    ensures acts { let command = Create (leads cwd.now word.now) moment fresh.now in Acts (λ fault. MayAnswer
-        F.tells command fault) F.tells (creates (leads cwd.now word.now) moment fresh.now) lines.old.items
-        lines.new.items (F.drive files.old) (F.drive files.new) result }
+    ensures says { MaySay (Create (leads cwd.now path.now.text) path.now.index moment fresh.now) lines.new.items
+        result }
+    ensures acts { let to = leads cwd.now path.now.text in let command = Create to path.now.index moment fresh.now in
+        Acts (λ fault. MayAnswer F.tells command fault) F.tells (creates to path.now.index moment fresh.now)
+        lines.old.items lines.new.items (F.drive files.old) (F.drive files.new) result }
 {
-    match root_of(alloc, cwd, word)? {
-        None => Err(Trouble::Refused(Fault::BadPath { at: 1 })),
+    match root_of(alloc, cwd, path.text.as_str())? {
+        None => Err(Trouble::Refused(bad_path(path))),
         Some(root) => {
             create(alloc, files, &root, moment, fresh, lines)?;
-            Ok(())
+            Ok(no_text(alloc))
         }
     }
 }
 
-// `save` with a word for its message.
+// `save`, by the word that may give a message.
 fn save_at<F: Files>(
     alloc: Global,
     files: &mut F,
     cwd: &Place,
-    word: &str,
+    word: &Option<Word>,
     moment: u64,
     lines: &mut Vec<Line>,
-) -> Result<(), Trouble>
+) -> Result<Bytes, Trouble>
     requires { lines.old.items ≡ [] }
-    ensures says { MaySay (Save cwd.now (message_of word.now) moment) lines.new.items result }
-    ensures acts { let command = Save cwd.now (message_of word.now) moment in ActsAs (λ fault. MayAnswer F.tells
-        command fault) F.tells (λ g act. IsActOf command g act) lines.old.items lines.new.items
+    ensures says { MaySay (Save cwd.now (message_by word.now) moment) lines.new.items result }
+    ensures acts { CarriesOut F.tells (Save cwd.now (message_by word.now) moment) lines.old.items lines.new.items
         (F.drive files.old) (F.drive files.new) result }
 {
-    let message = message_of(alloc, word)?;
+    let message = message_by(alloc, word)?;
     let root = find_root(alloc, files, cwd)?;
     let wish = SaveWish { message, moment };
     save(alloc, files, &root, &wish, lines)?;
-    Ok(())
+    Ok(no_text(alloc))
 }
 
-// The command of a call's words.
+// `log`, by the word that may give a revision.
+fn log_at<F: Files>(
+    alloc: Global,
+    files: &mut F,
+    cwd: &Place,
+    word: &Option<Word>,
+    lines: &mut Vec<Line>,
+) -> Result<Bytes, Trouble>
+    requires { lines.old.items ≡ [] }
+    ensures says { MaySay (Log cwd.now (revision_by word.now)) lines.new.items result }
+    ensures acts { CarriesOut F.tells (Log cwd.now (revision_by word.now)) lines.old.items lines.new.items
+        (F.drive files.old) (F.drive files.new) result }
+{
+    let root = find_root(alloc, files, cwd)?;
+    let repo = repo_within(alloc, &root)?;
+    let text = log(alloc, files, &repo, revision_by(word))?;
+    Ok(Bytes::new(text))
+}
+
+// The command that words ask for.
 fn act<F: Files>(
     alloc: Global,
     files: &mut F,
-    words: &[String],
+    asked: &Words,
     cwd: &Place,
     moment: u64,
     fresh: &[u8; 16],
     lines: &mut Vec<Line>,
-) -> Result<(), Trouble>
+) -> Result<Bytes, Trouble>
     requires { lines.old.items ≡ [] }
-    ensures says { MaySay (command_of (call_of (map string_bytes words.now) cwd.now moment fresh.now))
-        lines.new.items result }
-    ensures acts { let command = command_of (call_of (map string_bytes words.now) cwd.now moment fresh.now) in ActsAs
-        (λ fault. MayAnswer F.tells command fault) F.tells (λ g act. IsActOf command g act) lines.old.items
-        lines.new.items (F.drive files.old) (F.drive files.new) result }
+    ensures says { MaySay (command_of cwd.now moment fresh.now asked.now) lines.new.items result }
+    ensures acts { CarriesOut F.tells (command_of cwd.now moment fresh.now asked.now) lines.old.items lines.new.items
+        (F.drive files.old) (F.drive files.new) result }
 {
-    if begins_create(words) {
-        return create_at(alloc, files, cwd, dir_of(words), moment, fresh, lines);
+    match asked {
+        Words::Create { dataset: _, path } => create_at(
+            alloc, files, cwd, path, moment, fresh, lines,
+        ),
+        Words::Save { message, .. } => save_at(alloc, files, cwd, message, moment, lines),
+        Words::Log { revision, .. } => log_at(alloc, files, cwd, revision, lines),
+        Words::Version => Ok(version(alloc)?),
+        _ => Ok(help(alloc)?),
     }
-    save_at(alloc, files, cwd, message_word(words), moment, lines)
 }
 
-// What follows of the commands' acts, as laws of their definitions.
+// What follows of the commands' acts, and of the words' grammar, as laws of their definitions.
 fn laws(alloc: Global)
     ensures made { CreateKeepsSound }
     ensures kept { SaveKeepsSound }
     ensures remains { SaveKeeps }
     ensures complete { SaveIsComplete }
     ensures single { SaveIsOne }
+    ensures logged { LogIsOne }
+    ensures asked { AskOnce }
+    ensures ended { EndsOnce }
+    ensures meant { HaveMeaning }
 {
     create_keeps_sound(alloc);
     save_keeps_sound();
     save_remains();
     save_is_complete();
     save_is_one();
+    log_is_one();
+    one_meaning();
+    ends_once();
+    have_meaning();
+}
+
+// The answer to words that ask for something.
+fn answer<F: Files, O: Sink, E: Sink>(
+    alloc: Global,
+    asked: &Words,
+    cwd: &Place,
+    moment: u64,
+    fresh: &[u8; 16],
+    files: &mut F,
+    out: &mut O,
+    err: &mut E,
+) -> Status
+    ensures { (words : List (List ℕ)) → AskFor words asked.now → Answered (telling_of F.tells O.tells E.tells)
+        (call_of words cwd.now moment fresh.now)
+        (world_of (F.drive files.old) (O.tape out.old) (E.tape err.old))
+        (world_of (F.drive files.new) (O.tape out.new) (E.tape err.new)) result }
+{
+    laws(alloc);
+    if !is_built(asked) {
+        return say_usage(alloc, err, 0);
+    }
+    let mut lines = Vec::new(alloc);
+    let outcome = act(alloc, files, asked, cwd, moment, fresh, &mut lines);
+    report(alloc, out, err, lines.as_slice(), outcome)
 }
 
 /// One call of the program: the words after its name, the working directory, the seconds of the clock since 1970, 16
 /// random bytes, the files, and the two outputs.
 ///
-/// Where the files and the outputs tell what they hold, `ends` says, by the one act that the words have on the ground at
-/// the start, exactly what is left, printed and answered, and what stands and what a crash leaves at every moment: the
-/// disk lies between two neighbours among the act's grounds; a sound ground stays sound, with the heads of one of them and
-/// no object lost. What depends on the words alone is said by `words` whatever they tell. A device fails only where a
-/// count of faults rose, and Done, Refused and Usage come only where none did.
+/// The words have one reading, the field `reading`. Where the files and the outputs tell what they hold, `ends` says,
+/// by the one act that the reading has on the ground at the start, exactly what is left, printed and answered, and what
+/// stands and what a crash leaves at every moment: the disk lies between two neighbours among the act's grounds; a
+/// sound ground stays sound, with the heads of one of them and no object lost. What depends on the words alone is said
+/// by `words` whatever they tell. A device fails only where a count of faults rose, and Done, Refused and Usage come
+/// only where none did.
 pub fn datalad<F: Files, O: Sink, E: Sink>(
     alloc: Global,
     words: &[String],
@@ -123,20 +199,19 @@ pub fn datalad<F: Files, O: Sink, E: Sink>(
     out: &mut O,
     err: &mut E,
 ) -> Status
-    ensures ends { CallEnds (telling_of F.tells O.tells E.tells)
-        (reading (call_of (map string_bytes words.now) cwd.now moment fresh))
-        (world_of (F.drive files.old) (O.tape out.old) (E.tape err.old))
-        (world_of (F.drive files.new) (O.tape out.new) (E.tape err.new)) result }
-    ensures words { WordsDecide (telling_of F.tells O.tells E.tells)
-        (reading (call_of (map string_bytes words.now) cwd.now moment fresh))
+    ensures { Answered (telling_of F.tells O.tells E.tells)
+        (call_of (map string_bytes words.now) cwd.now moment fresh)
         (world_of (F.drive files.old) (O.tape out.old) (E.tape err.old))
         (world_of (F.drive files.new) (O.tape out.new) (E.tape err.new)) result }
 {
-    if let Some(at) = misread_at(words) {
-        return say_usage(alloc, err, at);
-    }
     laws(alloc);
-    let mut lines = Vec::new(alloc);
-    let outcome = act(alloc, files, words, cwd, moment, &fresh, &mut lines);
-    report(alloc, out, err, lines.as_slice(), outcome)
+    match read_words(alloc, words) {
+        Err(WordsErr::NoMemory) => starved(err),
+        Err(WordsErr::Usage { at }) => say_usage(alloc, err, at),
+        Ok(asked) => {
+            let status = answer(alloc, &asked, cwd, moment, &fresh, files, out, err);
+            drop(asked);
+            status
+        }
+    }
 }

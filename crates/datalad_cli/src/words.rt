@@ -1,121 +1,15 @@
-// The words of a call: `create DIR` or `save -m MSG --to-git`, where the directory's word leads, and the message.
-ghost use Rattle.std.specs.Prelude.{◌≡◌, codes, nat_eq, map, string_bytes, bytes_eq, IfOk, MatchResult};
-ghost use Rattle.std.specs.List.{starts_with};
+// What the words of a call lead to: the place of a new dataset, the message of a commit, a revision.
+ghost use Rattle.std.specs.Prelude.{◌≡◌, IfOk, MatchResult};
 ghost use Rattle.places.specs.All.{has_name};
 ghost use Rattle.repository.specs.All.{dlrepo};
-ghost use Rattle.datalad_cli.specs.Words.{misread, after_create, after_save, after_message, begins_create, dir_word};
-ghost use Rattle.datalad_cli.specs.Words.{message_word, message_of, leads};
+ghost use Rattle.datalad_cli.specs.Words.{default_message, leads, message_by, message_of, revision_by};
 
+use dl_words::Word;
 use file_store::{Bytes, Place, PlaceErr};
 use std::alloc::{AllocError, Global};
 
-fn is_word(word: &str, other: &str) -> bool
-    ensures { result ≡ bytes_eq word.now other.now }
-{
-    word == other
-}
-
-fn is_option(word: &str) -> bool
-    ensures { result ≡ starts_with nat_eq word.now (codes "-") }
-{
-    word.as_bytes().starts_with(b"-")
-}
-
-fn after_create(words: &[String]) -> Option<u64>
-    ensures { result ≡ after_create (map string_bytes words.now) }
-{
-    match words {
-        [] => Some(1),
-        [dir, rest @ ..] => {
-            if is_option(dir.as_str()) {
-                return Some(1);
-            }
-            if rest.is_empty() {
-                return None;
-            }
-            Some(2)
-        }
-    }
-}
-
-// Of the words after `-m MSG`.
-fn after_message(words: &[String]) -> Option<u64>
-    ensures { result ≡ after_message (map string_bytes words.now) }
-{
-    match words {
-        [] => Some(3),
-        [flag, rest @ ..] => {
-            if !is_word(flag.as_str(), "--to-git") {
-                return Some(3);
-            }
-            if rest.is_empty() {
-                return None;
-            }
-            Some(4)
-        }
-    }
-}
-
-fn after_save(words: &[String]) -> Option<u64>
-    ensures { result ≡ after_save (map string_bytes words.now) }
-{
-    match words {
-        [] => Some(1),
-        [option, rest @ ..] => {
-            if !is_word(option.as_str(), "-m") {
-                return Some(1);
-            }
-            match rest {
-                [] => Some(2),
-                [_, rest @ ..] => after_message(rest),
-            }
-        }
-    }
-}
-
-/// The index of the first word outside the forms `create DIR` and `save -m MSG --to-git`, or the number of words where
-/// one lacks.
-#[tactic(auto, unfolding(crate::specs::Words::misread))]
-pub(crate) fn misread_at(words: &[String]) -> Option<u64>
-    ensures { result ≡ misread (map string_bytes words.now) }
-{
-    match words {
-        [] => Some(0),
-        [first, rest @ ..] => {
-            if is_word(first.as_str(), "create") {
-                return after_create(rest);
-            }
-            if is_word(first.as_str(), "save") {
-                return after_save(rest);
-            }
-            Some(0)
-        }
-    }
-}
-
-/// Whether the first word is `create`.
-pub(crate) fn begins_create(words: &[String]) -> bool
-    ensures { result ≡ begins_create (map string_bytes words.now) }
-{
-    match words {
-        [first, ..] => is_word(first.as_str(), "create"),
-        _ => false,
-    }
-}
-
-/// The message's word, nothing where there is none.
-pub(crate) fn message_word(words: &[String]) -> &str
-    ensures { result.now ≡ message_word (map string_bytes words.now) }
-{
-    match words {
-        [_, _, message, ..] => message.as_str(),
-        _ => "",
-    }
-}
-
-/// The message of a commit.
 #[tactic(auto, unfolding(crate::specs::Words::message_of))]
-pub(crate) fn message_of(alloc: Global, word: &str) -> Result<Bytes, AllocError>
+fn message_of(alloc: Global, word: &str) -> Result<Bytes, AllocError>
     ensures { IfOk result (λ message. message ≡ message_of word.now) }
 {
     let mut bytes = Vec::from_slice(alloc, word.as_bytes())?;
@@ -125,13 +19,36 @@ pub(crate) fn message_of(alloc: Global, word: &str) -> Result<Bytes, AllocError>
     Ok(Bytes::new(bytes))
 }
 
-/// The directory's word, nothing where there is none.
-pub(crate) fn dir_of(words: &[String]) -> &str
-    ensures { result.now ≡ dir_word (map string_bytes words.now) }
+#[tactic(auto, unfolding(crate::specs::Words::default_message))]
+fn default_text() -> &'static [u8]
+    ensures { result.now ≡ default_message }
 {
-    match words {
-        [_, dir, ..] => dir.as_str(),
-        _ => "",
+    b"[DATALAD] Recorded changes\n"
+}
+
+fn default_message(alloc: Global) -> Result<Bytes, AllocError>
+    ensures { IfOk result (λ message. message ≡ default_message) }
+{
+    Ok(Bytes::new(Vec::from_slice(alloc, default_text())?))
+}
+
+/// The message of a commit, by the word that may give one.
+pub(crate) fn message_by(alloc: Global, word: &Option<Word>) -> Result<Bytes, AllocError>
+    ensures { IfOk result (λ message. message ≡ message_by word.now) }
+{
+    match word {
+        None => default_message(alloc),
+        Some(word) => message_of(alloc, word.text.as_str()),
+    }
+}
+
+/// The revision by the word that may give one.
+pub(crate) fn revision_by(word: &Option<Word>) -> &str
+    ensures { result.now ≡ revision_by word.now }
+{
+    match word {
+        None => "HEAD",
+        Some(word) => word.text.as_str(),
     }
 }
 

@@ -4,6 +4,8 @@ mod courses;
 mod create;
 mod devices;
 mod files;
+mod help;
+mod logs;
 mod refusals;
 mod save_refusals;
 mod save_stops;

@@ -29,6 +29,12 @@ fn words_without_a_reading(rt: HostRuntime) {
     for (words, err) in [
         ("", "datalad: usage: word 0\n"),
         ("crate x", "datalad: usage: word 0\n"),
+        ("statu", "datalad: usage: word 0\n"),
+        ("get", "datalad: usage: word 1\n"),
+        ("get x", "datalad: usage: word 0\n"),
+        ("save -m a", "datalad: usage: word 0\n"),
+        ("save -m a -m b", "datalad: usage: word 3\n"),
+        ("log a b", "datalad: usage: word 2\n"),
         ("create", "datalad: usage: word 1\n"),
         ("create a b", "datalad: usage: word 2\n"),
         ("create -x", "datalad: usage: word 1\n"),
@@ -69,6 +75,12 @@ fn words_that_lead_nowhere(rt: HostRuntime) {
             &refused(words, 1, "datalad: bad path in word 1\n"),
         );
     }
+    let behind = "create -- .dlrepo/x";
+    is_refused(
+        &rt,
+        alloc,
+        &refused(behind, 1, "datalad: bad path in word 2\n"),
+    );
 }
 
 // A call that makes a dataset where nothing stands.
@@ -113,6 +125,7 @@ fn places(rt: HostRuntime) {
         "create ../../../x",
         "create(ok): /x (dataset)\n",
     );
+    is_made(&rt, alloc, "create -- x", "create(ok): /w/x (dataset)\n");
 }
 
 // Where one file stands `create ds` is refused so, and nothing changes.
