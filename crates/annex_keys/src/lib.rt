@@ -20,6 +20,3 @@ pub use laws::{have_one_reading, reread_key, reread_pointer, rewrite_key};
 pub use pointers::{pointer_text, read_pointer};
 pub use printing::to_text;
 pub use reading::from_text;
-
-#[cfg(test)]
-mod tests;

@@ -19,6 +19,3 @@ pub use reading::read;
 pub use repository::{Remote, RepoConfig};
 pub use sections::{Entry, Section, append_section, print};
 pub use uuids::{Role, made_uuid};
-
-#[cfg(test)]
-mod tests;

@@ -18,6 +18,3 @@ pub use laws::{ends_once, have_meaning, one_meaning};
 pub use reading::read_words;
 pub use table::{CommandName, OperandForm, OptionName, Row};
 pub use words::{Setting, Word, WordList, Words};
-
-#[cfg(test)]
-mod tests;

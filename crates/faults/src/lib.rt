@@ -8,6 +8,3 @@ mod texts;
 pub use faults::{Fault, Trouble};
 pub use lines::Line;
 pub use texts::fault_text;
-
-#[cfg(test)]
-mod tests;

@@ -15,6 +15,3 @@ pub use memory::{MemErr, MemFiles, MemSink};
 pub use places::{Bytes, Place, PlaceErr, Text};
 pub use replacing::{Replacement, remove_all, replace, replace_all};
 pub use sinks::{Sink, write_whole};
-
-#[cfg(test)]
-mod tests;

@@ -12,8 +12,6 @@ mod parts;
 mod plan;
 mod replay;
 mod sink;
-#[cfg(test)]
-mod tests;
 
 pub use errors::MemErr;
 pub use files::MemFiles;

@@ -14,8 +14,6 @@ mod numbers;
 mod objects;
 mod people;
 mod reading;
-#[cfg(test)]
-mod tests;
 mod trees;
 
 pub use commits::Commit;

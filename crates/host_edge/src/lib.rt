@@ -7,8 +7,6 @@ mod disk;
 mod listing;
 mod output;
 mod paths;
-#[cfg(test)]
-mod tests;
 
 pub use disk::HostFiles;
 pub use output::HostSink;

@@ -6,8 +6,6 @@ mod objects;
 mod putting;
 mod reading;
 mod searching;
-#[cfg(test)]
-mod tests;
 
 pub use objects::NewObject;
 pub use putting::put_all;

@@ -9,6 +9,3 @@ mod words;
 pub use names::{is_name, is_path};
 pub use place::{Place, PlaceErr};
 pub use values::{Bytes, Text};
-
-#[cfg(test)]
-mod tests;

@@ -10,8 +10,6 @@ mod first;
 mod laws;
 mod planning;
 mod saving;
-#[cfg(test)]
-mod tests;
 mod viewing;
 mod wishes;
 

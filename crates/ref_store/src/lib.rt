@@ -12,8 +12,6 @@ mod reading;
 mod resolving;
 mod revision_words;
 mod setting;
-#[cfg(test)]
-mod tests;
 
 pub use heads::Head;
 pub use laws::{reads_agree, resolves_once, set_head_sets, set_tip_keeps, set_tip_sets};

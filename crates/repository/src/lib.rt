@@ -14,6 +14,3 @@ pub use limits::{
     ITEM_LIMIT, OBJECT_BODY_LIMIT, OBJECT_FILE_LIMIT, OBJECT_LIMIT, PLACE_LIMIT, REPO_LIMIT,
     repo_too_large, too_large,
 };
-
-#[cfg(test)]
-mod tests;

@@ -8,8 +8,6 @@ mod flattening;
 mod laws;
 mod ordering;
 mod snapshots;
-#[cfg(test)]
-mod tests;
 
 pub use building::{Built, build};
 pub use entries::{Entry, Leaf};

@@ -3,8 +3,6 @@
 
 mod found;
 mod planning;
-#[cfg(test)]
-mod tests;
 mod visiting;
 mod walking;
 

@@ -1,3 +1,0 @@
-// Rows that no clause says.
-mod faults;
-mod lines;

@@ -1,0 +1,2 @@
+-- Lemmas that answers take.
+mod Apart
