@@ -1,10 +1,10 @@
 // Revision words, and the commits to which they lead: three commits one after the other, as git names them.
 use super::{ON_MAIN, bytes, place};
-use crate::resolve;
 use faults::{Fault, Trouble};
 use file_store::{Bytes, MemFiles};
 use git_objects::{Id, ObjKind};
 use object_store::{NewObject, put_all};
+use ref_store::resolve;
 use std::alloc::Global;
 use std::process::Abort;
 

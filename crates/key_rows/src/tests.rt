@@ -1,4 +1,8 @@
-use super::*;
+// Keys, pointers and hash directories beside texts worked by hand.
+use annex_keys::{
+    Backend, KeyErr, from_text, hash_dir, key_of, matches, pointer_text, read_pointer, reread_key, reread_pointer, rewrite_key,
+    to_text,
+};
 use std::test::Fail;
 
 // The extension that a name gives.

@@ -1,8 +1,8 @@
 // Objects put and read beside git's own: what stands then, what is read, and that each refusal comes.
-use super::*;
 use faults::{Fault, Trouble};
 use file_store::{Bytes, Files, MemFiles, Place};
 use git_objects::{Id, ObjKind};
+use object_store::{NewObject, get, ids_with_prefix, put_all, read_commit, read_tree};
 use std::alloc::Global;
 use std::process::Abort;
 use std::test::Fail;

@@ -1,6 +1,5 @@
 // Readings worked by hand from the grammar.
-use crate::words::{Word, WordList, Words};
-use crate::{Setting, WordsErr, is_built, read_words};
+use dl_words::{Setting, Word, WordList, Words, WordsErr, is_built, read_words};
 use std::alloc::{AllocError, Global};
 use std::process::Abort;
 use std::test::Fail;

@@ -1,0 +1,5 @@
+//! Rows of keys and pointers. This library has tests and nothing else.
+#![tactic(auto)]
+
+#[cfg(test)]
+mod tests;
