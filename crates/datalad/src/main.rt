@@ -2,9 +2,11 @@
 #![tactic(auto)]
 
 mod calling;
+mod hints;
 mod start;
 
 use crate::calling::call;
+use crate::hints::hint;
 use crate::start::{Failure, begin};
 use host_edge::{HostFiles, HostSink};
 use std::process::ExitCode;
@@ -14,7 +16,9 @@ fn run(rt: &HostRuntime) -> Result<u8, Failure> {
     let mut files = HostFiles::new(rt.alloc(), rt.clone()?);
     let mut out = HostSink::new(rt.stdout());
     let mut err = HostSink::new(rt.stderr());
-    Ok(call(rt.alloc(), &start, &mut files, &mut out, &mut err).code())
+    let code = call(rt.alloc(), &start, &mut files, &mut out, &mut err).code();
+    hint(rt, code, &files, &out);
+    Ok(code)
 }
 
 fn main(rt: HostRuntime) -> ExitCode {

@@ -10,6 +10,7 @@ ghost use Rattle.host_edge.specs.Silent.{IsFailure};
 use crate::dirty::Dirty;
 use crate::listing::items_below;
 use crate::paths::{fill_from, kind_of, read_whole, size_of};
+use crate::reasons::Reason;
 use file_store::{FileErr, Files, Item, Kind, Place};
 use std::alloc::Global;
 use std::fs::{self, OpenOptions};
@@ -22,6 +23,7 @@ pub struct HostFiles<R: std::rt::Files + AllocGlobal + Clone + Drop> {
     rt: R,
     faults: u64,
     dirty: Dirty,
+    reason: Option<Reason>,
 }
 
 impl<R: std::rt::Files + AllocGlobal + Clone + Drop> HostFiles<R> {
@@ -30,7 +32,22 @@ impl<R: std::rt::Files + AllocGlobal + Clone + Drop> HostFiles<R> {
             rt,
             faults: 0,
             dirty: Dirty::new(alloc),
+            reason: None,
         }
+    }
+
+    /// Why the host failed last, if it did.
+    pub fn reason(&self) -> Option<&Reason> {
+        self.reason.as_ref()
+    }
+
+    // An error of the host at a place: a fault that is counted, or want of memory.
+    fn failed(&mut self, alloc: Global, place: &Place, error: Error) -> FileErr
+        ensures { IsFailure self.old.faults self.new.faults result }
+    {
+        let failure = failure(&mut self.faults, error);
+        self.reason = Some(Reason::at(alloc, place.as_str(), error));
+        failure
     }
 
     fn put(&mut self, alloc: Global, place: &Place, bytes: &[u8], add: bool) -> io::Result<()>
@@ -103,79 +120,82 @@ impl<R: std::rt::Files + AllocGlobal + Clone + Drop> Files for HostFiles<R> {
 
     ghost grounded = { λ _ told. absurd (false≢true told) };
 
-    fn kind(&mut self, _alloc: Global, place: &Place) -> Result<Kind, FileErr> {
+    fn kind(&mut self, alloc: Global, place: &Place) -> Result<Kind, FileErr> {
         match kind_of(&self.rt, place.as_str()) {
             Ok(kind) => Ok(kind),
-            Err(e) => Err(failure(&mut self.faults, e)),
+            Err(e) => Err(self.failed(alloc, place, e)),
         }
     }
 
-    fn size(&mut self, _alloc: Global, place: &Place) -> Result<Option<u64>, FileErr> {
+    fn size(&mut self, alloc: Global, place: &Place) -> Result<Option<u64>, FileErr> {
         match size_of(&self.rt, place.as_str()) {
             Ok(size) => Ok(size),
-            Err(e) => Err(failure(&mut self.faults, e)),
+            Err(e) => Err(self.failed(alloc, place, e)),
         }
     }
 
     fn read(&mut self, alloc: Global, place: &Place) -> Result<Option<Vec<u8>>, FileErr> {
         match read_whole(&self.rt, alloc, place.as_str()) {
             Ok(bytes) => Ok(bytes),
-            Err(e) => Err(failure(&mut self.faults, e)),
+            Err(e) => Err(self.failed(alloc, place, e)),
         }
     }
 
     fn read_part(
         &mut self,
-        _alloc: Global,
+        alloc: Global,
         place: &Place,
         from: u64,
         buffer: &mut [u8],
     ) -> Result<usize, FileErr> {
         match fill_from(&self.rt, place.as_str(), from, buffer) {
             Ok(count) => Ok(count),
-            Err(e) => Err(failure(&mut self.faults, e)),
+            Err(e) => Err(self.failed(alloc, place, e)),
         }
     }
 
     fn list(&mut self, alloc: Global, place: &Place) -> Result<Vec<Item>, FileErr> {
         match items_below(&self.rt, alloc, place.as_str()) {
             Ok(items) => Ok(items),
-            Err(e) => Err(failure(&mut self.faults, e)),
+            Err(e) => Err(self.failed(alloc, place, e)),
         }
     }
 
     fn write(&mut self, alloc: Global, place: &Place, bytes: &[u8]) -> Result<(), FileErr> {
         match self.put(alloc, place, bytes, false) {
             Ok(()) => Ok(()),
-            Err(e) => Err(failure(&mut self.faults, e)),
+            Err(e) => Err(self.failed(alloc, place, e)),
         }
     }
 
     fn append(&mut self, alloc: Global, place: &Place, bytes: &[u8]) -> Result<(), FileErr> {
         match self.put(alloc, place, bytes, true) {
             Ok(()) => Ok(()),
-            Err(e) => Err(failure(&mut self.faults, e)),
+            Err(e) => Err(self.failed(alloc, place, e)),
         }
     }
 
     fn rename(&mut self, alloc: Global, from: &Place, to: &Place) -> Result<bool, FileErr> {
         match self.move_file(alloc, from, to) {
             Ok(()) => Ok(true),
-            Err(e) => Err(failure(&mut self.faults, e)),
+            Err(e) => Err(self.failed(alloc, from, e)),
         }
     }
 
     fn remove(&mut self, alloc: Global, place: &Place) -> Result<bool, FileErr> {
         match self.remove_file(alloc, place) {
             Ok(found) => Ok(found),
-            Err(e) => Err(failure(&mut self.faults, e)),
+            Err(e) => Err(self.failed(alloc, place, e)),
         }
     }
 
     fn barrier(&mut self, _alloc: Global) -> Result<(), FileErr> {
         match self.dirty.sync(&self.rt) {
             Ok(()) => Ok(()),
-            Err(e) => Err(failure(&mut self.faults, e)),
+            Err(e) => {
+                self.reason = Some(Reason::nowhere(e));
+                Err(failure(&mut self.faults, e))
+            }
         }
     }
 }

@@ -7,6 +7,8 @@ mod disk;
 mod listing;
 mod output;
 mod paths;
+mod reasons;
 
 pub use disk::HostFiles;
 pub use output::HostSink;
+pub use reasons::Reason;

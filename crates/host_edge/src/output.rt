@@ -10,6 +10,7 @@ pub struct HostSink<W: Write + Drop> {
     writer: W,
     faults: u64,
     wants: u64,
+    reason: Option<Error>,
 }
 
 impl<W: Write + Drop> HostSink<W> {
@@ -18,7 +19,13 @@ impl<W: Write + Drop> HostSink<W> {
             writer,
             faults: 0,
             wants: 0,
+            reason: None,
         }
+    }
+
+    /// Why it failed last, if it did.
+    pub fn reason(&self) -> Option<Error> {
+        self.reason
     }
 }
 
@@ -52,6 +59,7 @@ impl<W: Write + Drop> Sink for HostSink<W> {
                 // An output that takes nothing of a piece would be written to for ever.
                 if n == 0 && !piece.is_empty() {
                     self.faults = self.faults.saturating_add(1);
+                    self.reason = Some(Error::from(ErrorKind::WriteZero));
                     return Err(SinkErr::Failed);
                 }
                 Ok(n)
@@ -62,6 +70,7 @@ impl<W: Write + Drop> Sink for HostSink<W> {
                     return Err(SinkErr::NoMemory);
                 }
                 self.faults = self.faults.saturating_add(1);
+                self.reason = Some(e);
                 Err(SinkErr::Failed)
             }
         }
