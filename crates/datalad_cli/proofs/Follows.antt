@@ -6,20 +6,21 @@ use Rattle.faults.specs.declared.faults.Fault.{Fault}
 use Rattle.acts.specs.All.{Act, Ending, EndsRefused, Gives, Moments, Reaches, still}
 use Rattle.dataset.specs.All.{Sound}
 use Rattle.recursive_save.specs.All.{CreateKeepsSound, SaveKeepsSound, SaveIsComplete, SaveIsOne}
-use Rattle.recursive_save.specs.All.{SaveKeeps}
+use Rattle.recursive_save.specs.All.{SaveKeeps, StatusEnds, StatusIsComplete, StatusIsOne}
+use Rattle.repository.specs.All.{repo_of}
 use Rattle.history.specs.All.{LogIsOne}
 use Rattle.dl_words.specs.declared.words.Word.{Word}
 use Rattle.dl_words.specs.declared.words.Words.{Words}
 use Rattle.dl_words.specs.declared.words.Words.TheVariants as words
-use Rattle.datalad_cli.specs.Commands.{Command, Help, HasOneAct, IsActOf, IsSoundFault, Log, MayAnswer}
-use Rattle.datalad_cli.specs.Commands.{Version, command_of}
+use Rattle.datalad_cli.specs.Commands.{Command, Help, HasOneAct, IsActOf, IsSoundFault, Log, LogComes}
+use Rattle.datalad_cli.specs.Commands.{MayAnswer, Status, Version, command_of}
 use Rattle.datalad_cli.specs.Ends.{AtEachMoment, KeepsSound}
 use Rattle.datalad_cli.specs.Help.{help_text, version_text}
 use Rattle.datalad_cli.specs.Words.{leads, message_by, revision_by}
 use Rattle.datalad_cli.proofs.Kept.{create_leaves, nothing_left, save_leaves}
-use Rattle.datalad_cli.proofs.Logging.{log_has_one, log_still}
+use Rattle.datalad_cli.proofs.ReadActs.{read_has_one, read_still}
 use Rattle.datalad_cli.proofs.Roots.{leads_clear}
-use Rattle.datalad_cli.proofs.Soundly.{create_sound, save_sound, save_refused, save_is_one, still_sound}
+use Rattle.datalad_cli.proofs.Soundly.{create_sound, save_sound, save_refused, save_is_one, status_refused, still_sound}
 
 -- what each act of a command leaves, keeps and refuses, and that there is one at most
 pub record Follows (command : Command) (old new : Drive) : Type 0 where
@@ -35,20 +36,35 @@ pub record CommandLaws : Type 0 where
   pub remains : SaveKeeps
   pub complete : SaveIsComplete
   pub single : SaveIsOne
+  pub status : StatusIsOne
+  pub seen : StatusIsComplete
   pub logged : LogIsOne
 
 module _ (laws : CommandLaws) (cwd : Names) (moment : ℕ) (dated : moment < 2 ^ 64) (fresh : List ℕ) (old new : Drive) where
   log_follows : (word : List ℕ) → Follows (Log cwd word) old new
   log_follows word = record {
     leaves = λ act is m.
-        let none = log_still cwd word (present old) act is in
+        let none = read_still (LogComes word) cwd (present old) act is in
         let left = nothing_left none.0 act old new none.1 m in
         record { along = m; stands = left.0; images = left.1 };
     sound = λ act is can sound settled.
-        let none = log_still cwd word (present old) act is in
+        let none = read_still (LogComes word) cwd (present old) act is in
         still_sound none.0 act old new none.1 sound settled;
     refused = λ act fault is ends may sound. may;
-    one = log_has_one laws.logged cwd word (present old);
+    one = λ one two is other. read_has_one (LogComes word) (λ root. laws.logged (repo_of root) word) cwd (present old) one two is other;
+  }
+
+  status_follows : Follows (Status cwd) old new
+  status_follows = record {
+    leaves = λ act is m.
+        let none = read_still StatusEnds cwd (present old) act is in
+        let left = nothing_left none.0 act old new none.1 m in
+        record { along = m; stands = left.0; images = left.1 };
+    sound = λ act is can sound settled.
+        let none = read_still StatusEnds cwd (present old) act is in
+        still_sound none.0 act old new none.1 sound settled;
+    refused = λ act fault is ends may sound. status_refused laws.seen cwd (present old) fault (Reaches act old new) act is ends sound;
+    one = λ one two is other. read_has_one StatusEnds laws.status cwd (present old) one two is other;
   }
 
   help_follows : Follows Help old new
@@ -89,16 +105,18 @@ module _ (laws : CommandLaws) (cwd : Names) (moment : ℕ) (dated : moment < 2 ^
         refused = λ act fault is ends may sound. save_refused laws.complete cwd text moment (present old) fault (Reaches act old new) act is ends sound;
         one = save_is_one laws.single cwd text moment (present old);
       }
+  follows (words.Status dataset recursive) = status_follows
   follows (words.Log dataset revision) = log_follows (revision_by revision)
   follows words.Version = version_follows
   follows other = help_follows
 
 -- all other words that are built ask for help
 pub others_help : (cwd : Names) (moment : ℕ) (fresh : List ℕ) (w : Words) → ((d : Option Word) (p : Word) → w ≡ words.Create d p → ⊥)
-    → ((d m f : Option Word) (r g : Bool) (p : List Word) → w ≡ words.Save d m f r g p → ⊥) → ((d r : Option Word) → w ≡ words.Log d r → ⊥) → (w ≡ words.Version → ⊥)
+    → ((d m f : Option Word) (r g : Bool) (p : List Word) → w ≡ words.Save d m f r g p → ⊥) → ((d : Option Word) (r : Bool) → w ≡ words.Status d r → ⊥) → ((d r : Option Word) → w ≡ words.Log d r → ⊥) → (w ≡ words.Version → ⊥)
     → command_of cwd moment fresh w ≡ Help
-others_help cwd moment fresh (words.Create d p) c s l v = absurd (c d p refl)
-others_help cwd moment fresh (words.Save d m f r g p) c s l v = absurd (s d m f r g p refl)
-others_help cwd moment fresh (words.Log d r) c s l v = absurd (l d r refl)
-others_help cwd moment fresh words.Version c s l v = absurd (v refl)
-others_help cwd moment fresh other c s l v = refl
+others_help cwd moment fresh (words.Create d p) c s t l v = absurd (c d p refl)
+others_help cwd moment fresh (words.Save d m f r g p) c s t l v = absurd (s d m f r g p refl)
+others_help cwd moment fresh (words.Status d r) c s t l v = absurd (t d r refl)
+others_help cwd moment fresh (words.Log d r) c s t l v = absurd (l d r refl)
+others_help cwd moment fresh words.Version c s t l v = absurd (v refl)
+others_help cwd moment fresh other c s t l v = refl

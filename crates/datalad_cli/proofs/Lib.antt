@@ -5,7 +5,7 @@ pub mod Cuts
 pub mod Follows
 pub mod Kept
 pub mod Leads
-pub mod Logging
+pub mod ReadActs
 pub mod Nearest
 pub mod Printed
 pub mod Readings

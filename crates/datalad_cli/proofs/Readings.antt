@@ -10,7 +10,7 @@ use Rattle.dl_words.specs.declared.words.Words.{Words}
 use Rattle.datalad_cli.specs.Answer.{Call, memory_text}
 use Rattle.datalad_cli.specs.Answered.{Answered}
 use Rattle.datalad_cli.specs.Commands.{Asks, Command, Create, HasOneAct, HasOneReading, Help, IsReading}
-use Rattle.datalad_cli.specs.Commands.{Log, MaySay, Misread, Reading, Save, Version, command_of}
+use Rattle.datalad_cli.specs.Commands.{Log, MaySay, Misread, Reading, Save, Status, Version, command_of}
 use Rattle.datalad_cli.specs.Decides.{CommandSays}
 use Rattle.datalad_cli.specs.Ends.{CommandEnds, Telling, World, world_of}
 use Rattle.datalad_cli.specs.Reports.{HasCounted, OutputCounts, SaysPart, TookPart, TookText, UsageEnds}
@@ -62,6 +62,7 @@ says_nothing : (command : Command) → MaySay command [] (Err ByMemory)
 says_nothing (Create None at moment fresh) = refl
 says_nothing (Create (Some root) at moment fresh) = refl
 says_nothing (Save cwd message moment) = refl
+says_nothing (Status cwd) = refl
 says_nothing (Log cwd word) = refl
 says_nothing Help = refl
 says_nothing Version = refl

@@ -3,12 +3,12 @@ pub use Rattle.datalad_cli.specs.Answer.{Call, call_of, device_text, lines_text,
 pub use Rattle.datalad_cli.specs.Answer.{usage_text}
 pub use Rattle.datalad_cli.specs.Answered.{Answered}
 pub use Rattle.datalad_cli.specs.Codes.{code_of}
-pub use Rattle.datalad_cli.specs.Commands.{Asks, CanKeep, CarriesOut, Command, Create, HasOneAct}
-pub use Rattle.datalad_cli.specs.Commands.{HasOneReading, Help, IsActIn, IsActOf, IsLogAct}
-pub use Rattle.datalad_cli.specs.Commands.{IsReading, IsSaveAct, IsSoundFault, Leaves, LeavesAt}
-pub use Rattle.datalad_cli.specs.Commands.{Log, MayAnswer, MayIn, MaySay, Misread, Reading, Save}
-pub use Rattle.datalad_cli.specs.Commands.{Version, command_of, creates, ending_by, ending_with}
-pub use Rattle.datalad_cli.specs.Commands.{wish_of, with_text}
+pub use Rattle.datalad_cli.specs.Commands.{Asks, CanKeep, CarriesOut, Comes, Command, Create}
+pub use Rattle.datalad_cli.specs.Commands.{HasOneAct, HasOneReading, Help, IsActIn, IsActOf}
+pub use Rattle.datalad_cli.specs.Commands.{IsReadAct, IsReading, IsSaveAct, IsSoundFault, Leaves}
+pub use Rattle.datalad_cli.specs.Commands.{LeavesAt, Log, LogComes, MayAnswer, MayIn, MaySay}
+pub use Rattle.datalad_cli.specs.Commands.{Misread, Reading, Save, Status, Version, command_of}
+pub use Rattle.datalad_cli.specs.Commands.{creates, ending_by, ending_with, wish_of, with_text}
 pub use Rattle.datalad_cli.specs.Decides.{CommandSays, EndsCutOff, EndsSaying, HasFault, MayEnd}
 pub use Rattle.datalad_cli.specs.Decides.{WordsDecide}
 pub use Rattle.datalad_cli.specs.Ends.{AtEachMoment, CommandEnds, EndsHalted, KeepsSound}

@@ -15,7 +15,8 @@ use Rattle.repository.specs.All.{repo_of}
 use Rattle.dataset.specs.All.{NoneCollide}
 use Rattle.recursive_save.specs.All.{new_dataset, new_parts, MayCreate, created_line, create_step}
 use Rattle.recursive_save.specs.All.{CreateRemains, IsSave, MaySave, SaveRemains, AreSaveLines}
-use Rattle.recursive_save.specs.All.{dataset_line, IsSoundRefusal}
+use Rattle.recursive_save.specs.All.{dataset_line, IsSoundRefusal, IsStatusText, MayView}
+use Rattle.recursive_save.specs.All.{StatusEnds}
 use Rattle.recursive_save.specs.declared.wishes.SaveWish.{SaveWish}
 use Rattle.history.specs.All.{IsLogText, LogEnds, MayLog}
 use Rattle.dl_words.specs.All.{AskFor, EndsAt, is_built}
@@ -28,16 +29,17 @@ use Rattle.datalad_cli.specs.Words.{leads, message_by, revision_by}
 
 -- A command, with all that it takes from the words, the working directory, the clock and the random
 -- bytes: `create` by where its word leads, if a dataset may be made there, and by that word's
--- index; `save` by the working directory, with the commit's message; `log` by it, with the
--- revision's word; `--help` and `--version`.
+-- index; `save` by the working directory, with the commit's message; `status` by it; `log` by it,
+-- with the revision's word; `--help` and `--version`.
 pub data Command : Type 0 where
   Create : Option Names → ℕ → ℕ → List ℕ → Command
   Save : Names → List ℕ → ℕ → Command
+  Status : Names → Command
   Log : Names → List ℕ → Command
   Help : Command
   Version : Command
 
--- What `create` does. No command but `log`, `--help` and `--version` gives a text of its own.
+-- What `create` does. No command but those that only read gives a text of its own.
 abbrev pub creates : Option Names → ℕ → ℕ → List ℕ → Step (List ℕ)
 creates None at moment fresh = refuses (BadPath at)
 creates (Some root) at moment fresh =
@@ -72,11 +74,18 @@ abbrev pub ending_by : Result (List ℕ) Fault → Ending (List ℕ)
 ending_by (Ok text) = Gives text
 ending_by (Err fault) = Refuses fault
 
--- An act of `log` in a dataset: nothing is done.
-abbrev pub IsLogAct : List ℕ → Ground → Names → Act (List ℕ) → Type 0
-IsLogAct word g root act =
-    (end : Result (List ℕ) Fault) × LogEnds (repo_of root) word g end
-    × (act ≡ still (ending_by end))
+-- What a command that only reads a dataset may come to, by the dataset's root.
+abbrev pub Comes : Type 1
+Comes = Names → Ground → Result (List ℕ) Fault → Type 0
+
+-- An act of a command that only reads: it ends as the reading does, and nothing is done.
+abbrev pub IsReadAct : Comes → Ground → Names → Act (List ℕ) → Type 0
+IsReadAct ComesTo g root act =
+    (end : Result (List ℕ) Fault) × ComesTo root g end × (act ≡ still (ending_by end))
+
+-- What the log of a revision's word comes to.
+abbrev pub LogComes : List ℕ → Comes
+LogComes word root g end = LogEnds (repo_of root) word g end
 
 -- An act of a command that works in the dataset in which its directory lies, by the dataset's root:
 -- refused where there is none.
@@ -89,7 +98,9 @@ abbrev pub IsActOf : Command → Ground → Act (List ℕ) → Type 0
 IsActOf (Create dir at moment fresh) g act = act ≡ creates dir at moment fresh g
 IsActOf (Save cwd message moment) g act =
     IsActIn cwd (IsSaveAct (wish_of message moment) g) (root_at cwd g) act
-IsActOf (Log cwd word) g act = IsActIn cwd (IsLogAct word g) (root_at cwd g) act
+IsActOf (Status cwd) g act = IsActIn cwd (IsReadAct StatusEnds g) (root_at cwd g) act
+IsActOf (Log cwd word) g act =
+    IsActIn cwd (IsReadAct (LogComes word) g) (root_at cwd g) act
 IsActOf Help g act = act ≡ still (Gives help_text)
 IsActOf Version g act = act ≡ still (Gives version_text)
 
@@ -111,6 +122,7 @@ MayAnswer tells (Create (Some root) at moment fresh) fault =
     MayCreate tells (new_dataset root moment fresh) fault
 MayAnswer tells (Save cwd message moment) fault =
     MayIn cwd (λ root. MaySave tells root fault) fault
+MayAnswer tells (Status cwd) fault = MayIn cwd (λ root. MayView tells root fault) fault
 MayAnswer tells (Log cwd word) fault = MayIn cwd (λ root. MayLog (repo_of root) word fault) fault
 MayAnswer tells Help fault = ⊥
 MayAnswer tells Version fault = ⊥
@@ -123,8 +135,8 @@ CarriesOut tells command before after old new result =
     after old new result
 
 -- The lines that a command says by its ending, and the text that it gives, whatever the files tell:
--- a save that is done says those of its commit, or that the dataset needs no save; a log is the
--- lines of commits that follow one another.
+-- a save that is done says those of its commit, or that the dataset needs no save; a status is the
+-- lines of changes, a log those of commits that follow one another.
 abbrev pub MaySay : Command → List Line → Result (List ℕ) Trouble → Type 0
 MaySay (Create None at moment fresh) lines (Ok text) = ⊥
 MaySay (Create None at moment fresh) lines (Err trouble) = lines ≡ []
@@ -134,6 +146,8 @@ MaySay (Create (Some root) at moment fresh) lines (Err trouble) = lines ≡ []
 MaySay (Save cwd message moment) lines (Ok text) =
     (text ≡ []) × (AreSaveLines lines ⊎ (lines ≡ dataset_line (codes "notneeded") ∷ []))
 MaySay (Save cwd message moment) lines (Err trouble) = lines ≡ []
+MaySay (Status cwd) lines (Ok text) = IsStatusText text × (lines ≡ [])
+MaySay (Status cwd) lines (Err trouble) = lines ≡ []
 MaySay (Log cwd word) lines (Ok text) = IsLogText text × (lines ≡ [])
 MaySay (Log cwd word) lines (Err trouble) = lines ≡ []
 MaySay Help lines (Ok text) = (text ≡ help_text) × (lines ≡ [])
@@ -156,6 +170,7 @@ Leaves (Create None at moment fresh) end Else g x = IsSame Else g x
 Leaves (Create (Some root) at moment fresh) end Else g x =
     CreateRemains (new_dataset root moment fresh) Else g x
 Leaves (Save cwd message moment) end Else g x = LeavesAt (root_at cwd g) end Else g x
+Leaves (Status cwd) end Else g x = IsSame Else g x
 Leaves (Log cwd word) end Else g x = IsSame Else g x
 Leaves Help end Else g x = IsSame Else g x
 Leaves Version end Else g x = IsSame Else g x
@@ -167,6 +182,7 @@ CanKeep (Create None at moment fresh) = Unit {0}
 CanKeep (Create (Some root) at moment fresh) =
     NoneCollide (repo_of root) (new_parts (new_dataset root moment fresh)).objects
 CanKeep (Save cwd message moment) = Unit {0}
+CanKeep (Status cwd) = Unit {0}
 CanKeep (Log cwd word) = Unit {0}
 CanKeep Help = Unit {0}
 CanKeep Version = Unit {0}
@@ -176,6 +192,7 @@ abbrev pub IsSoundFault : Command → Fault → Type 0
 IsSoundFault (Create dir at moment fresh) fault =
     MayAnswer true (Create dir at moment fresh) fault
 IsSoundFault (Save cwd message moment) fault = (fault ≡ NotADataset cwd) ⊎ IsSoundRefusal fault
+IsSoundFault (Status cwd) fault = (fault ≡ NotADataset cwd) ⊎ IsSoundRefusal fault
 IsSoundFault (Log cwd word) fault = MayAnswer true (Log cwd word) fault
 IsSoundFault Help fault = ⊥
 IsSoundFault Version fault = ⊥
@@ -193,6 +210,7 @@ command_of cwd moment fresh (words.Create dataset path) =
     Create (leads cwd path.text) path.index moment fresh
 command_of cwd moment fresh (words.Save dataset message message_file recursive to_git paths) =
     Save cwd (message_by message) moment
+command_of cwd moment fresh (words.Status dataset recursive) = Status cwd
 command_of cwd moment fresh (words.Log dataset revision) = Log cwd (revision_by revision)
 command_of cwd moment fresh words.Version = Version
 command_of cwd moment fresh other = Help

@@ -10,6 +10,7 @@ unfoldable pub help_commands : List ℕ
 help_commands =
     codes "  create DIR              make a dataset at DIR\n"
     ++ codes "  save [-m MSG] --to-git  commit the working files\n"
+    ++ codes "  status                  list what a save would commit\n"
     ++ codes "  log [REVISION]          list the commits of REVISION, or of HEAD\n"
     ++ codes "  --help                  print this text\n"
     ++ codes "  --version               print the version\n\n"

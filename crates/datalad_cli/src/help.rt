@@ -18,6 +18,7 @@ fn help_commands() -> &'static [u8]
 {
     b"\x20 create DIR              make a dataset at DIR\n\
       \x20 save [-m MSG] --to-git  commit the working files\n\
+      \x20 status                  list what a save would commit\n\
       \x20 log [REVISION]          list the commits of REVISION, or of HEAD\n\
       \x20 --help                  print this text\n\
       \x20 --version               print the version\n\n"

@@ -2,12 +2,14 @@
 ghost use Rattle.std.specs.Prelude.{◌≡◌, ℕ, List, [], map, string_bytes};
 ghost use Rattle.acts.specs.All.{Acts};
 ghost use Rattle.recursive_save.specs.All.{CreateKeepsSound, SaveIsComplete, SaveIsOne, SaveKeeps, SaveKeepsSound};
+ghost use Rattle.recursive_save.specs.All.{StatusIsComplete, StatusIsOne};
 ghost use Rattle.history.specs.All.{LogIsOne};
 ghost use Rattle.dl_words.specs.All.{AskFor, AskOnce, EndsOnce, HaveMeaning};
 ghost use Rattle.faults.specs.declared.faults.Fault.TheVariants.{BadPath};
 ghost use Rattle.datalad_cli.specs.Answer.{call_of};
 ghost use Rattle.datalad_cli.specs.Answered.{Answered};
-ghost use Rattle.datalad_cli.specs.Commands.{CarriesOut, Create, Log, MayAnswer, MaySay, Save, command_of, creates};
+ghost use Rattle.datalad_cli.specs.Commands.{CarriesOut, Create, Log, MayAnswer, MaySay, Save, Status, command_of};
+ghost use Rattle.datalad_cli.specs.Commands.{creates};
 ghost use Rattle.datalad_cli.specs.Ends.{telling_of, world_of};
 ghost use Rattle.datalad_cli.specs.Words.{leads, message_by, revision_by};
 
@@ -22,7 +24,7 @@ use file_store::{Bytes, Files, Place, Sink};
 use history::{log, log_is_one};
 use recursive_save::{
     SaveWish, create, create_keeps_sound, save, save_is_complete, save_is_one, save_keeps_sound,
-    save_remains,
+    save_remains, status, status_is_complete, status_is_one,
 };
 use std::alloc::Global;
 
@@ -87,6 +89,23 @@ fn save_at<F: Files>(
     Ok(no_text(alloc))
 }
 
+// `status`.
+fn status_at<F: Files>(
+    alloc: Global,
+    files: &mut F,
+    cwd: &Place,
+    lines: &mut Vec<Line>,
+) -> Result<Bytes, Trouble>
+    requires { lines.old.items ≡ [] }
+    ensures says { MaySay (Status cwd.now) lines.new.items result }
+    ensures acts { CarriesOut F.tells (Status cwd.now) lines.old.items lines.new.items (F.drive files.old)
+        (F.drive files.new) result }
+{
+    let root = find_root(alloc, files, cwd)?;
+    let text = status(alloc, files, &root)?;
+    Ok(Bytes::new(text))
+}
+
 // `log`, by the word that may give a revision.
 fn log_at<F: Files>(
     alloc: Global,
@@ -126,6 +145,7 @@ fn act<F: Files>(
             alloc, files, cwd, path, moment, fresh, lines,
         ),
         Words::Save { message, .. } => save_at(alloc, files, cwd, message, moment, lines),
+        Words::Status { .. } => status_at(alloc, files, cwd, lines),
         Words::Log { revision, .. } => log_at(alloc, files, cwd, revision, lines),
         Words::Version => Ok(version(alloc)?),
         _ => Ok(help(alloc)?),
@@ -139,6 +159,8 @@ fn laws(alloc: Global)
     ensures remains { SaveKeeps }
     ensures complete { SaveIsComplete }
     ensures single { SaveIsOne }
+    ensures status { StatusIsOne }
+    ensures seen { StatusIsComplete }
     ensures logged { LogIsOne }
     ensures asked { AskOnce }
     ensures ended { EndsOnce }
@@ -149,6 +171,8 @@ fn laws(alloc: Global)
     save_remains();
     save_is_complete();
     save_is_one();
+    status_is_one();
+    status_is_complete();
     log_is_one();
     one_meaning();
     ends_once();

@@ -24,6 +24,7 @@ pub fn is_built(words: &Words) -> bool
                 && *to_git
                 && paths.as_slice().is_empty()
         }
+        Words::Status { dataset, recursive } => dataset.is_none() && !*recursive,
         Words::Log { dataset, .. } => dataset.is_none(),
         Words::Help | Words::Version => true,
         _ => false,

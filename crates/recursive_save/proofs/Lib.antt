@@ -3,7 +3,7 @@ pub mod Apart
 pub mod BlobFacts
 pub mod ChangeLaws
 pub mod ChangedFiles
-pub mod ChangedLines
+pub mod ChangedStates
 pub mod Clear
 pub mod Colliding
 pub mod Complete

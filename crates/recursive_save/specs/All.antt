@@ -2,13 +2,15 @@
 pub use Rattle.recursive_save.specs.Blobs.{AreBlobs, AreThere, BlobReads, BlobsRead, IsBeyondSum}
 pub use Rattle.recursive_save.specs.Blobs.{IsBeyondSums, IsThere, MayReadBlob, MayReadBlobs}
 pub use Rattle.recursive_save.specs.Blobs.{blob_of, work_of}
-pub use Rattle.recursive_save.specs.Changed.{ArePaths, HasPaths, as_files, file_entry, is_among}
-pub use Rattle.recursive_save.specs.Changed.{is_gone, is_new, line_at, paths_of, shown, with_lines}
-pub use Rattle.recursive_save.specs.Changes.{LineMap, WorkFile, added, change_line, deleted}
-pub use Rattle.recursive_save.specs.Changes.{is_blob, is_changed, is_nothing, is_there, leaf_at}
-pub use Rattle.recursive_save.specs.Changes.{lines_by_path, new_blobs, new_entries, new_entry}
+pub use Rattle.recursive_save.specs.Changed.{AreOrdered, ArePaths, HasPaths, added_state, as_files}
+pub use Rattle.recursive_save.specs.Changed.{file_entry, is_among, is_gone, is_new, kept_changes}
+pub use Rattle.recursive_save.specs.Changed.{paths_of, shown, state_at, with_states}
+pub use Rattle.recursive_save.specs.Changes.{StateMap, WorkFile, action_of, added, change_at}
+pub use Rattle.recursive_save.specs.Changes.{change_line, change_lines, deleted, is_blob}
+pub use Rattle.recursive_save.specs.Changes.{is_changed, is_nothing, is_there, leaf_at, new_blobs}
+pub use Rattle.recursive_save.specs.Changes.{new_entries, new_entry, new_state, states_by_path}
 pub use Rattle.recursive_save.specs.Changes.{was_exec}
-unfoldable pub use Rattle.recursive_save.specs.Changes.{change_lines}
+unfoldable pub use Rattle.recursive_save.specs.Changes.{changes}
 pub use Rattle.recursive_save.specs.Collisions.{Firsts, IsFirst, first_in, or_index}
 pub use Rattle.recursive_save.specs.Configured.{ConfigReads, HasPerson, IsConfigured}
 pub use Rattle.recursive_save.specs.Configured.{IsUnconfigured, MayConfigure, MayReadText}
@@ -41,5 +43,8 @@ pub use Rattle.recursive_save.specs.Saving.{unread, view_fault, writes}
 unfoldable pub use Rattle.recursive_save.specs.Saving.{saves, saves_nothing}
 pub use Rattle.recursive_save.specs.Soundness.{CanCreate, CanSave, CreateKeepsSound, CreatesSound}
 pub use Rattle.recursive_save.specs.Soundness.{SaveKeepsSound, new_head}
+pub use Rattle.recursive_save.specs.Status.{IsStatus, IsStatusText, StatusEnds, StatusIsComplete}
+pub use Rattle.recursive_save.specs.Status.{StatusIsOne, state_text, status_line, status_text}
+unfoldable pub use Rattle.recursive_save.specs.Status.{clean_text}
 pub use Rattle.recursive_save.specs.Views.{IsView, MayView}
 pub use Rattle.recursive_save.specs.Writing.{IsRepo}

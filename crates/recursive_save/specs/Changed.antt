@@ -7,13 +7,16 @@ use Rattle.std.specs.List.{AllByRecursion, list_any}
 use Rattle.std.specs.List.Sorted.{IsStrictlySortedBy}
 use Rattle.std.specs.Ordering.{nat_cmp}
 use Rattle.std.specs.Cmp.Lexicographic.{slice_cmp}
-use Rattle.faults.specs.declared.lines.Line.{Line}
 use Rattle.snapshot.specs.All.{IsValidPath}
 use Rattle.snapshot.specs.declared.entries.Entry.{Entry}
 use Rattle.snapshot.specs.declared.entries.Leaf.TheVariants.{Git}
 use Rattle.tree_status.specs.All.{as_file}
 use Rattle.tree_status.specs.declared.found.WorkingFile.{WorkingFile}
-use Rattle.recursive_save.specs.Changes.{WorkFile, leaf_at, was_exec, is_blob, change_line}
+use Rattle.recursive_save.specs.Changes.{WorkFile, leaf_at, was_exec, is_blob, new_state}
+use Rattle.recursive_save.specs.Changes.{change_at}
+use Rattle.recursive_save.specs.declared.states.Change.{Change}
+use Rattle.recursive_save.specs.declared.states.State.{State}
+use Rattle.recursive_save.specs.declared.states.State.TheVariants.{Deleted}
 
 -- Working files with their blobs' ids.
 abbrev pub as_files : List WorkFile → List WorkingFile
@@ -56,11 +59,24 @@ abbrev pub HasPaths : List WorkingFile → BTreeSet (Bor (List ℕ)) → Type 0
 HasPaths files paths = (path : List ℕ)
     → contains_by (λ key. slice_cmp nat_cmp path key.now) paths ≡ is_among (paths_of files) path
 
--- The line at a path, among lines that are kept by their paths.
-abbrev pub line_at : BTreeMap (Bor (List ℕ)) Line → List ℕ → Option Line
-line_at lines path = get_by (λ key. slice_cmp nat_cmp path key.now) lines
+-- The state at a path, among states that are kept by their paths.
+abbrev pub state_at : BTreeMap (Bor (List ℕ)) State → List ℕ → Option State
+state_at states path = get_by (λ key. slice_cmp nat_cmp path key.now) states
 
--- The line at a path once some paths have a line of this action.
-abbrev pub with_lines : List ℕ → List (List ℕ) → List ℕ → Option Line → Option Line
-with_lines action paths path before =
-    if is_among paths path then Some (change_line action path) else before
+-- The state at a path once some paths have their states.
+abbrev pub with_states : (List ℕ → State) → List (List ℕ) → List ℕ → Option State → Option State
+with_states state_of paths path before =
+    if is_among paths path then Some (state_of path) else before
+
+-- The state of a working file that is added, by its path.
+abbrev pub added_state : List Entry → List ℕ → State
+added_state old path = new_state (leaf_at path old)
+
+-- The changes of states that are kept by their paths.
+abbrev pub kept_changes : List (Bor (List ℕ) × State) → List Change
+kept_changes states = map (λ kept. change_at kept.0.now kept.1) states
+
+-- The paths of changes ascend in byte order.
+abbrev pub AreOrdered : List Change → Type 0
+AreOrdered changes =
+    IsStrictlySortedBy (slice_cmp nat_cmp) (map (λ change. change.path) changes)

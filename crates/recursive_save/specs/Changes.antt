@@ -14,6 +14,9 @@ use Rattle.object_store.specs.declared.objects.NewObject.{NewObject}
 use Rattle.snapshot.specs.declared.entries.Entry.{Entry}
 use Rattle.snapshot.specs.declared.entries.Leaf.{Leaf}
 use Rattle.snapshot.specs.declared.entries.Leaf.TheVariants.{Git, Link, Pin}
+use Rattle.recursive_save.specs.declared.states.Change.{Change}
+use Rattle.recursive_save.specs.declared.states.State.{State}
+use Rattle.recursive_save.specs.declared.states.State.TheVariants.{Untracked, Modified, Deleted}
 
 -- A working file: its path below the root, and its bytes.
 abbrev pub WorkFile : Type 0
@@ -71,26 +74,49 @@ is_nothing (x ∷ xs) = false
 abbrev pub is_changed : List Entry → List WorkFile → Bool
 is_changed old files = not (is_nothing (added old files)) || not (is_nothing (deleted old files))
 
+-- The state of an added file, by the leaf at its path: untracked where there was none.
+abbrev pub new_state : Option Leaf → State
+new_state None = Untracked
+new_state (Some leaf) = Modified
+
+-- The states of what has changed, by their paths.
+abbrev pub states_by_path : List Entry → List WorkFile → List (List ℕ × State)
+states_by_path old files =
+    map (λ file. (file.0, new_state (leaf_at file.0 old))) (added old files)
+    ++ map (λ entry. (entry.path, Deleted)) (deleted old files)
+
+-- States in byte order of their paths.
+abbrev pub StateMap : Type 0
+StateMap = FinMap (slice_cmp nat_cmp) State
+
+-- A path and its state.
+abbrev pub change_at : List ℕ → State → Change
+change_at path state = record { path = path; state = state }
+
+-- What has changed, in byte order of the paths.
+unfoldable pub changes : List Entry → List WorkFile → List Change
+changes old files =
+    let states : StateMap = from_entries (states_by_path old files) in
+    map (λ entry. change_at entry.0 entry.1) (entries states)
+
+-- What a save does with a path, by its state.
+abbrev pub action_of : State → List ℕ
+action_of Untracked = codes "add"
+action_of Modified = codes "add"
+action_of Deleted = codes "delete"
+
 -- The line of a change of a file.
-abbrev pub change_line : List ℕ → List ℕ → Line
-change_line action path =
-    record { action = action; status = codes "ok"; path = path; kind = codes "file" }
-
--- The lines of the changes, by their paths.
-abbrev pub lines_by_path : List Entry → List WorkFile → List (List ℕ × Line)
-lines_by_path old files =
-    map (λ file. (file.0, change_line (codes "add") file.0)) (added old files)
-    ++ map (λ entry. (entry.path, change_line (codes "delete") entry.path)) (deleted old files)
-
--- Lines in byte order of their paths.
-abbrev pub LineMap : Type 0
-LineMap = FinMap (slice_cmp nat_cmp) Line
+abbrev pub change_line : Change → Line
+change_line change = record {
+  action = action_of change.state;
+  status = codes "ok";
+  path = change.path;
+  kind = codes "file";
+}
 
 -- The lines of the changes, in byte order of the paths.
-unfoldable pub change_lines : List Entry → List WorkFile → List Line
-change_lines old files =
-    let lines : LineMap = from_entries (lines_by_path old files) in
-    map (λ entry. entry.1) (entries lines)
+abbrev pub change_lines : List Entry → List WorkFile → List Line
+change_lines old files = map change_line (changes old files)
 
 -- The blobs of the files that are new or other than they were.
 abbrev pub new_blobs : List Entry → List WorkFile → List NewObject

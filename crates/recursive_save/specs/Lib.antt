@@ -13,5 +13,6 @@ pub mod Remains
 pub mod Saved
 pub mod Saving
 pub mod Soundness
+pub mod Status
 pub mod Views
 pub mod Writing

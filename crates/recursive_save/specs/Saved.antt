@@ -1,5 +1,5 @@
 -- What follows of a save.
-use Rattle.std.specs.Prelude.{◌≡◌, ◌⊎◌, ℕ, List, [], ◌∷◌, ◌++◌, Option, Some, None, Result, Ok}
+use Rattle.std.specs.Prelude.{◌≡◌, ℕ, List, [], ◌∷◌, ◌++◌, Option, Some, None, Result, Ok}
 use Rattle.std.specs.Prelude.{Err, codes}
 use Rattle.places.specs.All.{Names, Ground}
 use Rattle.faults.specs.declared.lines.Line.{Line}
@@ -14,8 +14,10 @@ use Rattle.acts.specs.All.{Act, Ending, Gives, Refuses, Breaks, Moments, last_of
 use Rattle.acts.specs.All.{IsFixed, Nothing, OldOrNew, NewWithAll}
 use Rattle.ref_store.specs.All.{IsTipPlace}
 use Rattle.dataset.specs.All.{Sound, IsDataset}
+use Rattle.recursive_save.specs.Changes.{change_line}
 use Rattle.recursive_save.specs.Remains.{HeldStay, SameOutside}
 use Rattle.recursive_save.specs.Saving.{IsSave, dataset_line}
+use Rattle.recursive_save.specs.declared.states.Change.{Change}
 use Rattle.recursive_save.specs.declared.wishes.SaveWish.{SaveWish}
 
 -- Of one ground a save has one act.
@@ -24,23 +26,11 @@ SaveIsOne =
     (root : Names) (wish : SaveWish) (g : Ground) (one two : Act (Option Id))
     → IsSave root wish g one → IsSave root wish g two → one ≡ two
 
--- The line of one changed file: it was added or deleted.
+-- The line of one change.
 abbrev pub IsChangeLine : Line → Type 0
-IsChangeLine line =
-    (line ≡ record {
-      action = codes "add";
-      status = codes "ok";
-      path = line.path;
-      kind = codes "file";
-    })
-    ⊎ (line ≡ record {
-      action = codes "delete";
-      status = codes "ok";
-      path = line.path;
-      kind = codes "file";
-    })
+IsChangeLine line = (change : Change) × (line ≡ change_line change)
 
--- Lines of changed files.
+-- Lines of changes.
 abbrev pub AreChangeLines : List Line → Type 0
 AreChangeLines [] = Unit {0}
 AreChangeLines (line ∷ lines) = IsChangeLine line × AreChangeLines lines

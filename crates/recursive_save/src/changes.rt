@@ -1,18 +1,20 @@
 // What has changed between a snapshot and the working files.
 //
 // Each call goes along the lists once; a path is looked up by binary search, or in a set of paths that is made once.
-ghost use Rattle.std.specs.Prelude.{◌≡◌, ℕ, List, map, codes, if◌then◌else◌, Some, bytes_eq, IfOk, OnOk};
+ghost use Rattle.std.specs.Prelude.{◌≡◌, ℕ, List, map, IfOk, OnOk};
 ghost use Rattle.std.specs.Ordering.{nat_cmp};
 ghost use Rattle.std.specs.Cmp.Lexicographic.{slice_cmp};
-ghost use Rattle.std.specs.BTreeMap.{IsOrdered, values};
+ghost use Rattle.std.specs.BTreeMap.{IsOrdered};
 ghost use Rattle.tree_status.specs.declared.found.WorkingFile.{WorkingFile};
-ghost use Rattle.recursive_save.specs.Changes.{WorkFile, added, change_line, change_lines, deleted, is_changed};
-ghost use Rattle.recursive_save.specs.Changes.{leaf_at, new_entries, was_exec};
-ghost use Rattle.recursive_save.specs.Changed.{ArePaths, HasPaths, as_files, file_entry, is_gone, is_new};
-ghost use Rattle.recursive_save.specs.Changed.{line_at, paths_of, shown, with_lines};
+ghost use Rattle.recursive_save.specs.Changes.{WorkFile, action_of, added, change_line, changes, deleted};
+ghost use Rattle.recursive_save.specs.Changes.{is_changed, leaf_at, new_entries, was_exec};
+ghost use Rattle.recursive_save.specs.Changed.{AreOrdered, ArePaths, HasPaths, added_state, as_files, file_entry};
+ghost use Rattle.recursive_save.specs.Changed.{is_gone, is_new, kept_changes, paths_of, shown, state_at, with_states};
+ghost use Rattle.recursive_save.specs.declared.states.State.TheVariants.{Deleted};
 ghost use Rattle.recursive_save.specs.Saved.{AreChangeLines};
 
 use crate::first::text;
+use crate::states::{Change, State};
 use faults::Line;
 use snapshot::{Entry, Leaf, Snapshot};
 use std::alloc::{AllocError, Global};
@@ -104,91 +106,110 @@ pub(crate) fn is_changed(
     Ok(!deleted_entries(alloc, old, files)?.is_empty())
 }
 
-// The line of a change of a file.
-fn change_line(alloc: Global, action: &str, path: &str) -> Result<Line, AllocError>
-    ensures { IfOk result (λ line. line ≡ change_line action.now path.now) }
+// The state of a file that is added, by its path.
+fn added_state(old: &Snapshot, path: &str) -> State
+    ensures { result ≡ added_state old.now path.now }
 {
-    Ok(Line {
-        action: text(alloc, action)?,
-        status: text(alloc, "ok")?,
-        path: text(alloc, path)?,
-        kind: text(alloc, "file")?,
-    })
+    match leaf_at(old, path) {
+        None => State::Untracked,
+        Some(_) => State::Modified,
+    }
 }
 
-// Keeps the line of a change under its path.
-fn keep_line<'a>(
-    alloc: Global,
-    lines: &mut BTreeMap<&'a str, Line>,
-    action: &str,
-    path: &'a str,
-) -> Result<(), AllocError>
-    ensures { OnOk result ((at : List ℕ) → line_at lines.new at
-        ≡ (if bytes_eq path.now at then Some (change_line action.now path.now) else line_at lines.old at)) }
-{
-    let line = change_line(alloc, action, path)?;
-    lines.insert(path, line)?;
-    Ok(())
-}
-
-// Keeps the lines of the files that are added.
+// Keeps the states of the files that are added.
 fn keep_added<'a>(
-    alloc: Global,
-    lines: &mut BTreeMap<&'a str, Line>,
+    states: &mut BTreeMap<&'a str, State>,
+    old: &Snapshot,
     files: &[&'a WorkingFile],
 ) -> Result<(), AllocError>
-    ensures { OnOk result ((at : List ℕ) → line_at lines.new at
-        ≡ with_lines (codes "add") (paths_of (shown files.now)) at (line_at lines.old at)) }
+    ensures { OnOk result ((at : List ℕ) → state_at states.new at
+        ≡ with_states (added_state old.now) (paths_of (shown files.now)) at (state_at states.old at)) }
 {
     for file in files {
-        keep_line(alloc, lines, "add", file.path.as_str())?;
+        let path = file.path.as_str();
+        states.insert(path, added_state(old, path))?;
     }
     Ok(())
 }
 
-// Keeps the lines of the entries that are deleted.
+// Keeps the states of the entries that are deleted.
 fn keep_deleted<'a>(
-    alloc: Global,
-    lines: &mut BTreeMap<&'a str, Line>,
+    states: &mut BTreeMap<&'a str, State>,
     entries: &[&'a Entry],
 ) -> Result<(), AllocError>
-    ensures { OnOk result ((at : List ℕ) → line_at lines.new at
-        ≡ with_lines (codes "delete") (map (λ entry. entry.path) (shown entries.now)) at (line_at lines.old at)) }
+    ensures { OnOk result ((at : List ℕ) → state_at states.new at
+        ≡ with_states (λ _. Deleted) (map (λ entry. entry.path) (shown entries.now)) at (state_at states.old at)) }
 {
     for entry in entries {
-        keep_line(alloc, lines, "delete", entry.path.as_str())?;
+        states.insert(entry.path.as_str(), State::Deleted)?;
     }
     Ok(())
 }
 
-// The lines in the order of their paths.
-fn in_order(alloc: Global, lines: BTreeMap<&str, Line>) -> Result<Vec<Line>, AllocError>
-    ensures values { IfOk result (λ list. list.items ≡ values lines.entry) }
-    ensures ordered { IfOk result (λ _. IsOrdered (λ one next. slice_cmp nat_cmp one.now next.now) lines.entry) }
+// The changes in the order of their paths.
+fn in_order(alloc: Global, states: BTreeMap<&str, State>) -> Result<Vec<Change>, AllocError>
+    ensures values { IfOk result (λ list. list.items ≡ kept_changes states.entries) }
+    ensures ordered { IfOk result (λ _. IsOrdered (λ one next. slice_cmp nat_cmp one.now next.now) states) }
 {
     let mut list = Vec::new(alloc);
-    for (_, line) in lines {
-        list.push(line)?;
+    for (path, state) in states {
+        let path = text(alloc, path)?;
+        list.push(Change { path, state })?;
     }
     Ok(list)
 }
 
-/// The lines of the changes, in byte order of the paths. Whatever the files tell, each is one of a changed file.
-pub(crate) fn lines_of(
+/// What has changed, in byte order of the paths.
+pub(crate) fn changes_of(
     alloc: Global,
     old: &Snapshot,
     files: &[WorkingFile],
-) -> Result<Vec<Line>, AllocError>
-    ensures lines { (work : List WorkFile) → files.now ≡ as_files work → IfOk result
-        (λ lines. lines.items ≡ change_lines old.now work) }
-    ensures said { IfOk result (λ lines. AreChangeLines lines.items) }
+) -> Result<Vec<Change>, AllocError>
+    ensures changes { (work : List WorkFile) → files.now ≡ as_files work → IfOk result
+        (λ list. list.items ≡ changes old.now work) }
+    ensures ordered { IfOk result (λ list. AreOrdered list.items) }
 {
     let added = added_files(alloc, old, files)?;
     let deleted = deleted_entries(alloc, old, files)?;
-    let mut lines = BTreeMap::new(alloc);
-    keep_deleted(alloc, &mut lines, deleted.as_slice())?;
-    keep_added(alloc, &mut lines, added.as_slice())?;
-    in_order(alloc, lines)
+    let mut states = BTreeMap::new(alloc);
+    keep_deleted(&mut states, deleted.as_slice())?;
+    keep_added(&mut states, old, added.as_slice())?;
+    in_order(alloc, states)
+}
+
+// What a save does with a path.
+#[tactic(auto, unfolding(crate::specs::Changes::action_of))]
+fn action(state: State) -> &'static str
+    ensures { result.now ≡ action_of state }
+{
+    match state {
+        State::Untracked | State::Modified => "add",
+        State::Deleted => "delete",
+    }
+}
+
+// The line of a change of a file.
+fn change_line(alloc: Global, change: &Change) -> Result<Line, AllocError>
+    ensures { IfOk result (λ line. line ≡ change_line change.now) }
+{
+    Ok(Line {
+        action: text(alloc, action(change.state))?,
+        status: text(alloc, "ok")?,
+        path: text(alloc, change.path.as_str())?,
+        kind: text(alloc, "file")?,
+    })
+}
+
+/// The lines of changes, each one of a changed file.
+pub(crate) fn lines_of(alloc: Global, changes: &[Change]) -> Result<Vec<Line>, AllocError>
+    ensures lines { IfOk result (λ lines. lines.items ≡ map change_line changes.now) }
+    ensures said { IfOk result (λ lines. AreChangeLines lines.items) }
+{
+    let mut lines = Vec::new(alloc);
+    for change in changes {
+        lines.push(change_line(alloc, change)?)?;
+    }
+    Ok(lines)
 }
 
 fn was_exec(old: &Snapshot, path: &str) -> bool

@@ -14,7 +14,7 @@ ghost use Rattle.recursive_save.specs.Planned.{plan_of, IsCommitOn};
 ghost use Rattle.recursive_save.specs.Views.{IsView};
 
 use crate::blobs::read_blobs;
-use crate::changes::{added_files, lines_of, new_snapshot};
+use crate::changes::{added_files, changes_of, lines_of, new_snapshot};
 use crate::configuring::read_settings;
 use crate::first::{new_object, text};
 use crate::viewing::View;
@@ -97,7 +97,8 @@ fn all_lines(alloc: Global, view: &View) -> Result<Vec<Line>, AllocError>
         ≡ change_lines view.now.old work ++ dataset_line (codes "ok") ∷ []) }
     ensures said { IfOk result (λ lines. AreSaveLines lines.items) }
 {
-    let mut lines = lines_of(alloc, &view.old, view.files.as_slice())?;
+    let changes = changes_of(alloc, &view.old, view.files.as_slice())?;
+    let mut lines = lines_of(alloc, changes.as_slice())?;
     lines.push(saved_line(alloc)?)?;
     Ok(lines)
 }

@@ -24,9 +24,9 @@ use ref_store::set_tip;
 use repository::{PLACE_LIMIT, too_large};
 use std::alloc::{AllocError, Global};
 
-// The repository of a dataset, refused where HEAD has no place in it.
+/// The repository of a dataset, refused where HEAD has no place in it.
 #[tactic(auto, unfolding(places::specs::Names::is_path, places::specs::Names::is_name))]
-fn repo(alloc: Global, root: &Place) -> Result<Place, Trouble>
+pub(crate) fn repo(alloc: Global, root: &Place) -> Result<Place, Trouble>
     ensures { IsRepo root.now result }
 {
     let head = root.joined(alloc, ".dlrepo/HEAD")?;

@@ -10,4 +10,5 @@ mod refusals;
 mod save_refusals;
 mod save_stops;
 mod saves;
+mod statuses;
 mod stops;

@@ -126,7 +126,7 @@ const OF_RUNS_AND_SETTINGS: [(&str, &str); 38] = [
 ];
 
 // Whether what the words ask for is built.
-const BUILT: [(&str, bool); 22] = [
+const BUILT: [(&str, bool); 24] = [
     ("create^x", true),
     ("create^-d^a^x", false),
     ("save^--to-git", true),
@@ -141,7 +141,9 @@ const BUILT: [(&str, bool); 22] = [
     ("log^-d^x", false),
     ("--help", true),
     ("--version", true),
-    ("status", false),
+    ("status", true),
+    ("status^-r", false),
+    ("status^-d^x", false),
     ("clone^a^b", false),
     ("get^a", false),
     ("drop^a", false),

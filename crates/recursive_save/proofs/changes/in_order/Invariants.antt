@@ -1,7 +1,6 @@
 use Rattle.std.proofs.Common.{◌≡◌, ◌++◌}
-use Rattle.std.specs.BTreeMap.{values}
-use Rattle.std.specs.Map.{values_of}
+use Rattle.recursive_save.specs.Changed.{kept_changes}
 use Rattle.recursive_save.proofs.changes.in_order.Given as goal
 
-abbrev pub invariant-loop-line : goal.invariant-loop-line
-invariant-loop-line l = l.list.items ++ values_of l.line-iterator ≡ values l.fn.lines
+abbrev pub invariant-loop-path : goal.invariant-loop-path
+invariant-loop-path l = l.list.items ++ kept_changes l.path-iterator ≡ kept_changes l.fn.states.entries

@@ -1,7 +1,7 @@
 use Rattle.std.proofs.Common.{◌∷◌, ◌++◌, [], ℕ, List, take, ap, ◌∙◌, sym, arith}
 use Rattle.recursive_save.specs.Changed.{is_among, paths_of}
 use Rattle.recursive_save.proofs.ChangedFiles.{paths_more}
-use Rattle.recursive_save.proofs.ChangedLines.{set_more}
+use Rattle.recursive_save.proofs.ChangedStates.{set_more}
 use Rattle.recursive_save.proofs.changes.path_set.Goals as goal
 
 pub loop-file-preserved : goal.loop-file-preserved
