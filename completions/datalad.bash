@@ -3,7 +3,7 @@
 # them.
 
 # The commands.
-_datalad_commands="create save log --help --version"
+_datalad_commands="create save status log --help --version"
 
 # The options that take a value, by their short and long names.
 _datalad_with_value="-m --message"
@@ -13,6 +13,7 @@ _datalad_options() {
   case $1 in
     create) ;;
     save) echo "-m --message --to-git" ;;
+    status) ;;
     log) ;;
   esac
 }
