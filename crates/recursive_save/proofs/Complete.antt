@@ -284,7 +284,7 @@ module _ (root : Names) (g : Ground) (at : IsSoundAt root g) where
   whole_at : (parent : List ℕ) → option_map (λ (h : Led). h.id) (head_of g repo) ≡ Some parent → IsWhole repo parent g
   whole_at parent e = subst (λ (i : List ℕ). IsWhole repo i g) (led (head_of g repo) parent at.heads.leads e) at.heads.whole
 
-  unread_sound : (fault : Fault) → IsUnread root g fault → IsSoundRefusal fault
+  pub unread_sound : (fault : Fault) → IsUnread root g fault → IsSoundRefusal fault
   unread_sound fault (inl tip) = of_soundly (tip_fault repo g) fault (tip_sound repo g at.heads.head at.heads.leads) tip
   unread_sound fault (inr (parent, tip, inl fails)) = flatten_sound repo g parent fault (whole_at parent tip.1) fails
   unread_sound fault (inr (parent, tip, inr (old, flat, why))) = of_soundly (view_fault root g old) fault (view_sound root g old) why

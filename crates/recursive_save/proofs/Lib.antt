@@ -30,5 +30,6 @@ pub mod SaveLeft
 pub mod SaveRounds
 pub mod Saves
 pub mod Standing
+pub mod Statuses
 pub mod Views
 pub mod Written

@@ -47,7 +47,7 @@ module _ (root : Names) (g : Ground) where
     pub parent : one ≡ two
     pub old : a ≡ b
 
-  read_once : (one two : List ℕ) (a b : List Entry) → IsRead root g one a → IsRead root g two b → SameRead one two a b
+  pub read_once : (one two : List ℕ) (a b : List Entry) → IsRead root g one a → IsRead root g two b → SameRead one two a b
   read_once one two a b read other =
       let same = parent_once one two read.tip other.tip in
       record { parent = same; old = old_once one two a b same read.flat other.flat }
@@ -63,7 +63,7 @@ module _ (root : Names) (g : Ground) where
   unread_or_read fault parent old (inr (other, tip, inr (list, flat, why))) read =
       not_none _ fault (ap (view_fault root g) (old_once parent other old list (parent_once parent other read.tip tip) read.flat flat) ∙ why) (viewed parent old read)
 
-  unread_once : (one two : Fault) → IsUnread root g one → IsUnread root g two → one ≡ two
+  pub unread_once : (one two : Fault) → IsUnread root g one → IsUnread root g two → one ≡ two
   unread_once one two (inl a) (inl b) = some_once _ one two a b
   unread_once one two (inl a) (inr (parent, tip, rest)) = absurd (not_none _ one a tip.0)
   unread_once one two (inr (parent, tip, rest)) (inl b) = absurd (not_none _ two b tip.0)

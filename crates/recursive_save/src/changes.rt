@@ -148,8 +148,8 @@ fn keep_deleted<'a>(
 
 // The changes in the order of their paths.
 fn in_order(alloc: Global, states: BTreeMap<&str, State>) -> Result<Vec<Change>, AllocError>
-    ensures values { IfOk result (λ list. list.items ≡ kept_changes states.entries) }
-    ensures ordered { IfOk result (λ _. IsOrdered (λ one next. slice_cmp nat_cmp one.now next.now) states) }
+    ensures values { IfOk result (λ list. list.items ≡ kept_changes states.entry.entries) }
+    ensures ordered { IfOk result (λ _. IsOrdered (λ one next. slice_cmp nat_cmp one.now next.now) states.entry) }
 {
     let mut list = Vec::new(alloc);
     for (path, state) in states {
