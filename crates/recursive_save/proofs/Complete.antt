@@ -1,13 +1,13 @@
 -- A save of a sound dataset is refused for nothing that the program itself has left there.
-use Rattle.std.proofs.Common.{◌≡◌, ◌⊎◌, inl, inr, ⊎_elim, ℕ, ◌+◌, Bool, true, false, cond, nat_lt, List, [], ◌∷◌, ◌++◌, length, Option, Some, None, Result, Ok, Err, refl, sym, ap, ◌∙◌, subst}
-use Rattle.std.specs.Prelude.{bytes_eq, codes, IsSome, is_some, nat_le, not, option_map, ◌&&◌}
+use Rattle.std.proofs.Common.{◌≡◌, inl, inr, ℕ, ◌+◌, Bool, true, false, cond, nat_lt, List, [], ◌∷◌, ◌++◌, length, Option, Some, None, Result, Ok, refl, sym, ap, ◌∙◌, subst}
+use Rattle.std.specs.Prelude.{bytes_eq, IsSome, is_some, nat_le, not, option_map, ◌&&◌}
 use Rattle.std.specs.FinMap.{entries}
 use Rattle.std.proofs.lemmas.Slice.Eq.{bytes_eq-Decides}
 use Rattle.places.specs.All.{Names, text_of, joined, is_text, longest, Ground, file_at, stands}
 use Rattle.faults.specs.declared.lines.Line.{Line}
 use Rattle.faults.specs.declared.faults.Fault.{Fault}
 use Rattle.faults.specs.declared.faults.Fault.TheVariants.{BadCommit, BadTree, Collision, Damaged}
-use Rattle.file_store.specs.All.{Round, finally, or_next, first_shut, block_of, only}
+use Rattle.file_store.specs.All.{or_next, first_shut, block_of, only}
 use Rattle.file_store.specs.declared.replacing.Replacement.{Replacement}
 use Rattle.git_objects.specs.All.{Fields, IsBadAt, IsBadCommitAt, Object, is_dir, is_object_text}
 use Rattle.git_objects.specs.All.{oid, text_of_object}
@@ -24,8 +24,8 @@ use Rattle.repository.specs.All.{object_of, object_place, repo_head, repo_limit,
 use Rattle.repository.specs.All.{settings_place, tmp_place}
 use Rattle.repository.proofs.Heading.{how_read}
 use Rattle.repository.proofs.Holds.{held_is, none_of_text}
-use Rattle.acts.specs.All.{Act, Ending, Gives, Refuses, Breaks, Step, bind, each, ending_of, fold}
-use Rattle.acts.specs.All.{gives, go_on, last_of, put_act, puts, rounds_in, says, still, unless}
+use Rattle.acts.specs.All.{Act, Ending, Gives, Refuses, Breaks, Step, bind, ending_of, fold}
+use Rattle.acts.specs.All.{gives, go_on, last_of, put_act, puts, says, still, unless}
 use Rattle.object_store.specs.All.{IsCommitAt, IsCommitFault, IsTreeAt, IsTreeFault, body_fault}
 use Rattle.object_store.specs.All.{early_fault, fault_in, file_fault, first_fault, found_fault}
 use Rattle.object_store.specs.All.{get_fault, kind_fault as object_fault, large_file, long_fault}
@@ -46,15 +46,15 @@ use Rattle.snapshot.specs.declared.entries.Leaf.{Leaf}
 use Rattle.snapshot.specs.declared.entries.Leaf.TheVariants.{Git, Link, Pin}
 use Rattle.snapshot.proofs.Faultless.{EachSub-parts, cut_at}
 use Rattle.snapshot.proofs.Standing.{no_leaf_is_dir, tree_same}
-use Rattle.dataset.specs.All.{IsDataset, IsSoundAt, IsWhole, Sound}
+use Rattle.dataset.specs.All.{IsSoundAt, IsWhole}
 use Rattle.dataset.proofs.Commits.{tree_full}
 use Rattle.dataset.proofs.Ids.{oid_is_id}
-use Rattle.tree_status.specs.All.{Directory, ItemKind, Nested, Working, directory_of, fault_along}
+use Rattle.tree_status.specs.All.{Directory, ItemKind, Nested, Working, fault_along}
 use Rattle.tree_status.specs.All.{git_file_limit, item_fault, items, walk_fault, working}
 use Rattle.tree_status.specs.All.{kind_fault as item_kind_fault}
 use Rattle.recursive_save.specs.Changes.{WorkFile, added}
 use Rattle.recursive_save.specs.Saved.{IsSoundEnding, IsSoundRefusal, SaveIsComplete}
-use Rattle.recursive_save.specs.Saving.{IsRead, IsSave, IsUnread, SavePlan, blobs_limit, clash_fault}
+use Rattle.recursive_save.specs.Saving.{IsSave, IsUnread, SavePlan, blobs_limit, clash_fault}
 use Rattle.recursive_save.specs.Saving.{clash_with, clean, line_fault, pin_fault, plan_fault, saved}
 use Rattle.recursive_save.specs.Saving.{saves, saves_nothing, says_all, settings_fault, settings_in}
 use Rattle.recursive_save.specs.Saving.{settings_limit, sum_fault, unplanned, unread, view_fault}

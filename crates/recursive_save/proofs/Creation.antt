@@ -1,17 +1,12 @@
 -- The making of a dataset: its tests, and its step.
-use Rattle.std.proofs.Common.{◌≡◌, ◌≢◌, ◌≤◌, ◌<◌, inl, inr, ℕ, Bool, true, false, ◌||◌, cond, nat_lt, IsTrue, List, ◌∷◌, length, ◌+◌, [], Option, None, Some, Ok, Err, refl, sym, ap, ◌∙◌, subst, arith, length-append}
-use Rattle.std.specs.Prelude.{codes}
+use Rattle.std.proofs.Common.{◌≡◌, ◌≢◌, ◌≤◌, ◌<◌, inl, inr, ℕ, Bool, true, false, ◌||◌, cond, nat_lt, IsTrue, List, ◌∷◌, length, [], Option, None, Some, Ok, refl, sym, ap, ◌∙◌, subst}
 use Rattle.std.proofs.lemmas.Bool.{cases_Bool, lt-ltb, le-ltb}
-use Rattle.places.specs.All.{Names, slashed, text_of, Ground, stands, stands_below, stands_above}
-use Rattle.places.proofs.Cuts.{below_text}
-use Rattle.file_store.specs.All.{Drive, present, KindEnds, only, trouble_of}
+use Rattle.places.specs.All.{Names, text_of, Ground, stands, stands_below, stands_above}
+use Rattle.file_store.specs.All.{Drive, present, KindEnds, only}
 use Rattle.file_store.specs.declared.kinds.Kind.{Kind}
-use Rattle.file_store.specs.declared.errors.FileErr.{FileErr}
 use Rattle.faults.specs.declared.faults.Fault.{Fault}
 use Rattle.faults.specs.declared.faults.Fault.TheVariants.{AlreadyThere, Blocked, TooLarge}
 use Rattle.file_store.specs.declared.kinds.Kind.TheVariants.{Absent, File, Dir}
-use Rattle.file_store.specs.declared.errors.FileErr.TheVariants.{Failed, Blocked as FileBlocked}
-use Rattle.file_store.specs.declared.errors.FileErr.TheVariants.{NoMemory as FileNoMemory}
 use Rattle.git_objects.specs.declared.ids.Id.{Id}
 use Rattle.object_store.specs.All.{IsFoundAmong, MayPut, puts_objects}
 use Rattle.object_store.specs.declared.objects.NewObject.{NewObject}

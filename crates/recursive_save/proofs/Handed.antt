@@ -1,6 +1,5 @@
 -- The steps of the writing of a dataset, by the names that the program gives them.
-use Rattle.std.proofs.Common.{◌≡◌, ℕ, Bool, IsTrue, List, [], ◌∷◌, ◌++◌, Result, ap, subst, ◌∙◌}
-use Rattle.std.specs.Prelude.{codes}
+use Rattle.std.proofs.Common.{◌≡◌, ℕ, Bool, IsTrue, List, Result, ap, subst, ◌∙◌}
 use Rattle.places.specs.All.{Names}
 use Rattle.file_store.specs.All.{Drive, only}
 use Rattle.faults.specs.declared.faults.Trouble.{Trouble}

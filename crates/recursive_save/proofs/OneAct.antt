@@ -1,20 +1,18 @@
 -- A save has one act, by the ground at which it starts.
-use Rattle.std.proofs.Common.{◌≡◌, ◌⊎◌, inl, inr, ℕ, Bool, true, false, List, [], ◌∷◌, ◌++◌, Option, Some, None, Result, Ok, refl, sym, ap, ◌∙◌, subst}
+use Rattle.std.proofs.Common.{◌≡◌, inl, inr, ℕ, true, false, List, [], ◌∷◌, ◌++◌, Option, Some, None, refl, sym, ap, ◌∙◌, subst}
 use Rattle.std.specs.Prelude.{codes}
 use Rattle.std.proofs.lemmas.Bool.{false≢true}
-use Rattle.places.specs.All.{Names, Ground, file_at}
+use Rattle.places.specs.All.{Names, Ground}
 use Rattle.faults.specs.declared.faults.Fault.{Fault}
-use Rattle.faults.specs.declared.lines.Line.{Line}
 use Rattle.file_store.specs.All.{or_next}
 use Rattle.git_objects.specs.All.{oid}
 use Rattle.git_objects.specs.declared.ids.Id.{Id}
 use Rattle.git_objects.specs.declared.objects.ObjKind.TheVariants.{Commit}
-use Rattle.config_text.specs.All.{PlainConfig, config_in}
+use Rattle.config_text.specs.All.{config_in}
 use Rattle.repository.specs.All.{repo_of}
 use Rattle.acts.specs.All.{Act, still, Refuses}
-use Rattle.object_store.specs.declared.objects.NewObject.{NewObject}
 use Rattle.ref_store.specs.All.{IsTipAt}
-use Rattle.snapshot.specs.All.{Dir, IsFlat, IsFlattenFault, root_id, tree_objects}
+use Rattle.snapshot.specs.All.{IsFlat, IsFlattenFault, root_id, tree_objects}
 use Rattle.snapshot.specs.declared.entries.Entry.{Entry}
 use Rattle.snapshot.proofs.Inverse.{one_end}
 use Rattle.snapshot.proofs.Once.{paths_once}

@@ -9,7 +9,7 @@ use Rattle.std.specs.List.Sorted.{IsStrictlySortedBy}
 use Rattle.std.specs.Ordering.{nat_cmp, is_lt}
 use Rattle.std.proofs.lemmas.Bool.{false≢true}
 use Rattle.std.proofs.lemmas.Cmp.{nat_list_cmp_total}
-use Rattle.places.specs.All.{Names, IsName, is_name, slash, slashed, path_of, names_of, joined}
+use Rattle.places.specs.All.{Names, IsName, is_name, slashed, path_of, names_of, joined}
 use Rattle.places.specs.All.{Ground}
 use Rattle.places.proofs.Grammar.{is_text-sound}
 use Rattle.places.proofs.Texts.{and_both, names_of-append}
@@ -17,12 +17,12 @@ use Rattle.file_store.specs.All.{is_item_name}
 use Rattle.repository.specs.All.{dlrepo}
 use Rattle.git_objects.specs.All.{is_entry}
 use Rattle.snapshot.specs.All.{IsEntryName, IsValidPath, name, down}
-use Rattle.tree_status.specs.All.{AreWorking, as_file, is_own, is_working, walk_fault, working}
+use Rattle.tree_status.specs.All.{AreWorking, is_own, is_working, working}
 use Rattle.tree_status.specs.declared.found.WorkingFile.{WorkingFile}
 use Rattle.tree_status.proofs.Paths.{names_whole, working_whole}
 use Rattle.tree_status.proofs.WorkingFiles.{IsWorkingFile, each_working, working_ascend}
 use Rattle.recursive_save.specs.Changes.{WorkFile}
-use Rattle.recursive_save.specs.Changed.{ArePaths, as_files, paths_of}
+use Rattle.recursive_save.specs.Changed.{ArePaths, paths_of}
 use Rattle.recursive_save.proofs.ChangedFiles.{paths_as}
 use Rattle.recursive_save.proofs.Standing.{IsStanding, all_standing}
 

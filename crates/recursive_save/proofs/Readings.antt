@@ -1,5 +1,5 @@
 -- Readings that follow one another.
-use Rattle.std.proofs.Common.{◌≡◌, ◌≤◌, Bool, IsTrue, Err}
+use Rattle.std.proofs.Common.{◌≡◌, Bool, IsTrue, Err}
 use Rattle.places.specs.All.{Ground}
 use Rattle.file_store.specs.All.{Drive, present}
 use Rattle.faults.specs.declared.faults.Fault.{Fault}

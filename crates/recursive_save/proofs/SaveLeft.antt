@@ -1,5 +1,5 @@
 -- What is left at every moment of a save.
-use Rattle.std.proofs.Common.{◌≡◌, ◌≢◌, ◌⊎◌, inl, inr, ⊎_elim, ℕ, ◌+◌, Bool, true, false, cond, ◌||◌, List, [], ◌∷◌, ◌++◌, Option, Some, None, Result, Ok, Err, refl, sym, ap, ◌∙◌, subst, take, drop}
+use Rattle.std.proofs.Common.{◌≡◌, ◌≢◌, ◌⊎◌, inl, inr, ⊎_elim, ℕ, ◌+◌, Bool, true, false, cond, ◌||◌, List, [], ◌∷◌, ◌++◌, Option, Some, None, refl, sym, ap, ◌∙◌, subst, take, drop}
 use Rattle.std.specs.Prelude.{codes, is_some, length, map, option_map, fold}
 use Rattle.std.specs.Char.{is_ascii_hexdigit}
 use Rattle.std.specs.List.{All, AllByRecursion}
@@ -11,7 +11,7 @@ use Rattle.places.proofs.Above.{is_above-complete, same_rest}
 use Rattle.places.proofs.Grounds.{cases_place}
 use Rattle.file_store.specs.All.{Round, changed, finally, only, removal_of, round_of, present}
 use Rattle.file_store.specs.All.{WasOpen, IsAlong, IsBetween, Along, still, here, there}
-use Rattle.file_store.proofs.Consequences.{AllLeave, AtMostOnce, never, not_here, not_later, finally_other, once_of, each_place, now_along, image_along}
+use Rattle.file_store.proofs.Consequences.{AtMostOnce, never, not_here, not_later, each_place, now_along, image_along}
 use Rattle.file_store.proofs.Moments.{weaken}
 use Rattle.file_store.proofs.Rounds.{LeftBy, changed_other}
 use Rattle.git_objects.specs.All.{hex_of, IsId, oid, text_of_object}
@@ -26,8 +26,8 @@ use Rattle.repository.proofs.HeadTexts.{id_in-only}
 use Rattle.repository.proofs.Holds.{held_is}
 use Rattle.repository.proofs.Temporary.{outside_apart}
 use Rattle.repository.proofs.Unfinished.{repo_tmp, repo_below}
-use Rattle.acts.specs.All.{Act, IsFirm, IsFixed, Moments, Nothing, NewWithAll, OldOrNew, last_of}
-use Rattle.acts.specs.All.{Refuses, none_loose, rounds_in, whole_round, still as refused}
+use Rattle.acts.specs.All.{Act, IsFirm, IsFixed, Nothing, NewWithAll, last_of}
+use Rattle.acts.specs.All.{Refuses, rounds_in, whole_round, still as refused}
 use Rattle.object_store.specs.All.{has_place, missing, one_object_more, place_in, puts_objects, staging}
 use Rattle.object_store.specs.declared.objects.NewObject.{NewObject}
 use Rattle.ref_store.specs.All.{branch_by, given, head_at, head_given}
@@ -36,9 +36,8 @@ use Rattle.ref_store.proofs.Leading.{same_branch}
 use Rattle.ref_store.proofs.Sets.{tip_outside}
 use Rattle.dataset.proofs.Ids.{oid_is_id}
 use Rattle.snapshot.specs.declared.entries.Entry.{Entry}
-use Rattle.recursive_save.specs.Remains.{HeldStay, SameOutside}
 use Rattle.recursive_save.specs.Saved.{SaveKeeps, SaveRemains}
-use Rattle.recursive_save.specs.Saving.{IsRead, IsSave, SavePlan, clean, saved, saves, saves_nothing, unplanned}
+use Rattle.recursive_save.specs.Saving.{IsRead, IsSave, SavePlan, clean, saved, unplanned}
 use Rattle.recursive_save.specs.Saving.{unread}
 use Rattle.recursive_save.specs.declared.wishes.SaveWish.{SaveWish}
 use Rattle.recursive_save.proofs.SaveRounds.{NoRound, OfTwo, nothing_none, put_ground, put_most, put_round, saved_rounds, tip_round}

@@ -1,17 +1,16 @@
 -- The rounds of a save: none, or that of its objects, or that of its tip, or both in this order.
-use Rattle.std.proofs.Common.{◌≡◌, ◌⊎◌, inl, inr, ℕ, Bool, false, ◌||◌, List, [], ◌∷◌, ◌++◌, Option, Some, None, refl, sym, ap, ◌∙◌, subst}
-use Rattle.places.specs.All.{Names, Ground, file_at}
+use Rattle.std.proofs.Common.{◌≡◌, ◌⊎◌, inl, inr, Bool, false, ◌||◌, List, [], ◌∷◌, ◌++◌, Option, Some, None, refl, sym, ap, ◌∙◌}
+use Rattle.places.specs.All.{Names, Ground}
 use Rattle.faults.specs.declared.faults.Fault.{Fault}
 use Rattle.faults.specs.declared.lines.Line.{Line}
 use Rattle.file_store.specs.All.{Round, only}
 use Rattle.file_store.specs.declared.replacing.Replacement.{Replacement}
 use Rattle.git_objects.specs.declared.ids.Id.{Id}
 use Rattle.repository.specs.All.{id_text, repo_of, tmp_place, is_tmp}
-use Rattle.acts.specs.All.{Act, Ending, Event, Changes, Tells, Gives, Refuses, Breaks, Step}
+use Rattle.acts.specs.All.{Act, Ending, Gives, Refuses, Breaks, Step}
 use Rattle.acts.specs.All.{rounds_of, rounds_in, last_of, still, ending_of, go_on, bind, unless}
-use Rattle.acts.specs.All.{gives, says, fold, each, whole_round}
+use Rattle.acts.specs.All.{gives, says, fold, whole_round}
 use Rattle.object_store.specs.All.{early_fault, missing, puts_missing, puts_objects, puts_some, staging}
-use Rattle.object_store.specs.declared.objects.NewObject.{NewObject}
 use Rattle.ref_store.specs.All.{sets_tip, tip_at}
 use Rattle.ref_store.proofs.Keeping.{puts_round, set_round}
 use Rattle.dataset.proofs.Steps.{rounds_append}

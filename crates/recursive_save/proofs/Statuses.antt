@@ -1,9 +1,9 @@
 -- A status: what it looks at, and what it says of that.
-use Rattle.std.proofs.Common.{◌≡◌, inl, inr, ℕ, Bool, true, false, cond, IsTrue, List, [], ◌∷◌, Option, Some, None, Result, Ok, Err, Vec, refl, sym, ap, ◌∙◌, subst, map}
+use Rattle.std.proofs.Common.{◌≡◌, inl, ℕ, Bool, true, false, cond, List, [], ◌∷◌, Option, Some, None, Result, Ok, Err, Vec, refl, sym, ap, ◌∙◌, subst}
 use Rattle.std.specs.Prelude.{length, nat_lt}
 use Rattle.std.specs.List.{flat_map}
 use Rattle.std.specs.declared.alloc.Global.{Global}
-use Rattle.places.specs.All.{Names, Ground, longest, text_of}
+use Rattle.places.specs.All.{Names, longest, text_of}
 use Rattle.faults.specs.declared.faults.Fault.{Fault}
 use Rattle.faults.specs.declared.faults.Fault.TheVariants.{TooLarge}
 use Rattle.faults.specs.declared.faults.Trouble.{Trouble}
@@ -18,7 +18,7 @@ use Rattle.snapshot.specs.declared.entries.Entry.{Entry}
 use Rattle.recursive_save.specs.Changed.{as_files}
 use Rattle.recursive_save.specs.Changes.{WorkFile, changes}
 use Rattle.recursive_save.specs.Saving.{IsUnread}
-use Rattle.recursive_save.specs.Status.{IsStatus, StatusEnds, StatusIsComplete, StatusIsOne, status_line, status_text}
+use Rattle.recursive_save.specs.Status.{IsStatus, StatusIsComplete, StatusIsOne, status_line, status_text}
 use Rattle.recursive_save.specs.Views.{IsView, MayView}
 use Rattle.recursive_save.specs.Writing.{IsRepo}
 use Rattle.recursive_save.specs.declared.states.Change.{Change}

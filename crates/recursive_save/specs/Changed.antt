@@ -16,7 +16,6 @@ use Rattle.recursive_save.specs.Changes.{WorkFile, leaf_at, was_exec, is_blob, n
 use Rattle.recursive_save.specs.Changes.{change_at}
 use Rattle.recursive_save.specs.declared.states.Change.{Change}
 use Rattle.recursive_save.specs.declared.states.State.{State}
-use Rattle.recursive_save.specs.declared.states.State.TheVariants.{Deleted}
 
 -- Working files with their blobs' ids.
 abbrev pub as_files : List WorkFile → List WorkingFile

@@ -1,6 +1,6 @@
 -- What has changed between a snapshot and the working files.
-use Rattle.std.specs.Prelude.{ℕ, Bool, true, false, not, ◌&&◌, ◌||◌, ◌==◌, if◌then◌else◌}
-use Rattle.std.specs.Prelude.{List, [], ◌∷◌, ◌++◌, map, length, nat_lt, Option, Some, None}
+use Rattle.std.specs.Prelude.{ℕ, Bool, true, false, not, ◌||◌, if◌then◌else◌}
+use Rattle.std.specs.Prelude.{List, [], ◌∷◌, ◌++◌, map, Option, Some, None}
 use Rattle.std.specs.Prelude.{bytes_eq, codes}
 use Rattle.std.specs.List.{filter, list_any}
 use Rattle.std.specs.FinMap.{FinMap, from_entries, entries}
@@ -8,7 +8,6 @@ use Rattle.std.specs.Ordering.{nat_cmp}
 use Rattle.std.specs.Cmp.Lexicographic.{slice_cmp}
 use Rattle.faults.specs.declared.lines.Line.{Line}
 use Rattle.git_objects.specs.All.{oid}
-use Rattle.git_objects.specs.declared.ids.Id.{Id}
 use Rattle.git_objects.specs.declared.objects.ObjKind.TheVariants.{Blob}
 use Rattle.object_store.specs.declared.objects.NewObject.{NewObject}
 use Rattle.snapshot.specs.declared.entries.Entry.{Entry}

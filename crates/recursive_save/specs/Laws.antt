@@ -1,5 +1,5 @@
 -- What follows of the making of a dataset.
-use Rattle.std.specs.Prelude.{◌≡◌, ℕ, true, false, List, [], ◌∷◌, Some, None}
+use Rattle.std.specs.Prelude.{◌≡◌, true, false, [], ◌∷◌, Some, None}
 use Rattle.places.specs.All.{Names, has_name, Ground, file_at}
 use Rattle.faults.specs.declared.faults.Fault.{Fault}
 use Rattle.file_store.specs.All.{Disk, Drive, Since, IsImage, WasOpen, present}

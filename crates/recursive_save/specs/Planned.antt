@@ -6,7 +6,6 @@ use Rattle.faults.specs.declared.faults.Trouble.{Trouble}
 use Rattle.faults.specs.declared.faults.Fault.TheVariants.{BadLine, TooLarge, Dirty, PathClash}
 use Rattle.faults.specs.declared.faults.Trouble.TheVariants.{Refused, NoMemory}
 use Rattle.git_objects.specs.All.{oid, Fields, IsCommitText}
-use Rattle.git_objects.specs.declared.ids.Id.{Id}
 use Rattle.git_objects.specs.declared.objects.ObjKind.TheVariants.{Commit}
 use Rattle.config_text.specs.All.{PlainConfig}
 use Rattle.repository.specs.All.{settings_place}

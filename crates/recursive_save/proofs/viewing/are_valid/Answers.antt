@@ -1,7 +1,6 @@
-use Rattle.std.proofs.Common.{◌≡◌, false, take, sym, subst, ◌∙◌, arith}
+use Rattle.std.proofs.Common.{sym, ◌∙◌, arith}
 use Rattle.std.proofs.lemmas.Bool.{false≢true}
-use Rattle.std.proofs.lemmas.Grind.{common_steps}
-use Rattle.recursive_save.proofs.PathOrder.{AreValid, not_valid, valid_more}
+use Rattle.recursive_save.proofs.PathOrder.{not_valid, valid_more}
 use Rattle.recursive_save.proofs.viewing.are_valid.Goals as goal
 
 pub returns-then-not-is_valid_path : goal.returns-then-not-is_valid_path

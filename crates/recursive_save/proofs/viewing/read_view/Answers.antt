@@ -1,6 +1,5 @@
-use Rattle.std.proofs.Common.{◌≡◌, ◌∙◌, Ok, Err, None, Some, List, Option, Result, sym, ap, subst}
+use Rattle.std.proofs.Common.{◌∙◌, sym, subst}
 use Rattle.std.proofs.lemmas.Bool.{false≢true}
-use Rattle.places.specs.All.{Names}
 use Rattle.acts.proofs.Reading.{read_exits}
 use Rattle.recursive_save.specs.Changed.{ArePaths}
 use Rattle.recursive_save.proofs.Views.{tip_fails, flat_fails, pin_fails, work_fails, work_gives, order_fails}
