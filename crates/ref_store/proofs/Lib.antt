@@ -1,4 +1,5 @@
 pub mod Arriving
+pub mod Below
 pub mod Fitting
 pub mod Fronts
 pub mod Keeping
