@@ -128,9 +128,15 @@ front_path path =
     let e : slash ∷ front_of (pieces path) ≡ slash ∷ (path ++ slash ∷ []) = slashed_front (pieces path) ∙ ap (λ (z : List ℕ). z ++ slash ∷ []) (slashed-pieces path) in
     sym (cc e)
 
+-- no names at all
+pub no_names : AreNames []
+unfolding IsStrictlySortedBy
+no_names = record { ascending = tt; named = refl }
+
 -- ---- what stands below a place
 
 pub above_dir : (g : Ground) (p : Names) (m : List ℕ) (ms : Names) → IsGround g → stands g (p ++ m ∷ ms) ≡ true → kind_at g p ≡ Dir
+unfolding stands_below
 above_dir g p m ms ground there = (λ i. cond (bare i) File (cond (below i) Dir Absent))
   where
     above : is_above p (p ++ m ∷ ms) ≡ true
@@ -140,8 +146,14 @@ above_dir g p m ms ground there = (λ i. cond (bare i) File (cond (below i) Dir 
     bare = false_from_ne_true _ (λ h. ground p (p ++ m ∷ ms) h there (m, ms, refl))
 
     below : stands_below g p ≡ true
-    unfolding stands_below
     below = any_key (is_above p) g (p ++ m ∷ ms) above there
+
+-- a branch at a path shows that a file is there
+pub file_here : (repo : Names) (g : Ground) (path name : List ℕ) → path ≡ name → has_branch repo name g ≡ true → kind_at g (heads_at repo (pieces path)) ≡ File
+file_here repo g path name same has =
+    let e1 = and_both _ (stands g (branch_place repo name)) has in
+    let there : stands g (heads_at repo (pieces path)) ≡ true = ap (λ (z : List ℕ). stands g (heads_at repo (pieces z))) same ∙ e1.1 in
+    (λ i. cond (there i) File (cond (stands_below g (heads_at repo (pieces path))) Dir Absent))
 
 module _ (repo : Names) (g : Ground) (ground : IsGround g) where
   -- a branch below a path shows that a directory is there
@@ -151,14 +163,7 @@ module _ (repo : Names) (g : Ground) (ground : IsGround g) where
       let e1 = and_both _ (stands g (branch_place repo name)) has in
       let cut : pieces name ≡ pieces path ++ some.0 ∷ some.1 = ap pieces is ∙ pieces-append path rest ∙ ap (λ (z : Names). pieces path ++ z) some.2 in
       above_dir g (heads_at repo (pieces path)) some.0 some.1 ground
-      (ap (stands g) (sym (append_assoc repo (codes "refs" ∷ codes "heads" ∷ pieces path) (some.0 ∷ some.1)) ∙ ap (heads_at repo) (sym cut)) ∙ e1.1)
-
-  -- and one at the path itself that a file is
-  at_file : (path name : List ℕ) → path ≡ name → has_branch repo name g ≡ true → kind_at g (heads_at repo (pieces path)) ≡ File
-  at_file path name same has =
-      let e1 = and_both _ (stands g (branch_place repo name)) has in
-      let there : stands g (heads_at repo (pieces path)) ≡ true = ap (λ (z : List ℕ). stands g (heads_at repo (pieces z))) same ∙ e1.1 in
-      (λ i. cond (there i) File (cond (stands_below g (heads_at repo (pieces path))) Dir Absent))
+      (ap (stands g) (append_assoc repo (codes "refs" ∷ codes "heads" ∷ pieces path) (some.0 ∷ some.1) ∙ ap (heads_at repo) (sym cut)) ∙ e1.1)
 
   dir_no_file : Dir ≡ File → ⊥
   dir_no_file e = cc e
@@ -205,7 +210,7 @@ module _ (repo : Names) (g : Ground) (ground : IsGround g) where
           adds.each name
           ∙ ap (λ b. contains_text before name || b)
           (right_only (bytes_eq path name) (starts_with nat_eq name (path ++ slash ∷ [])) (has_branch repo name g)
-          (λ same has. dir_no_file (sym dir ∙ at_file path name ((bytes_eq-Decides path name).0 same) has))
+          (λ same has. dir_no_file (sym dir ∙ file_here repo g path name ((bytes_eq-Decides path name).0 same) has))
           ∙ one_under name);
     }
 
@@ -282,13 +287,9 @@ module _ (repo : Names) (g : Ground) (ground : IsGround g) where
   -- no branch has a place
   pub no_branches : (fault : Fault) → long_place (heads_at repo []) ≡ Some fault → AreBranches repo g []
   no_branches fault long = record {
-    form = record { ascending = none_ascend; named = refl };
+    form = no_names;
     among = λ name. sym (false_from_ne_true _ (λ has. too_long [] (pieces name) name fault refl long has));
   }
-    where
-      none_ascend : IsStrictlySortedBy (slice_cmp nat_cmp) []
-      unfolding IsStrictlySortedBy
-      none_ascend = tt
 
   -- ---- all items of a directory
 
@@ -304,7 +305,7 @@ module _ (repo : Names) (g : Ground) (ground : IsGround g) where
         let there : stands g (place ++ m ∷ ms) ≡ true =
         ap (stands g) (ap (λ (z : Names). z ++ m ∷ ms) b.at ∙ append_assoc repo (codes "refs" ∷ codes "heads" ∷ b.parts) (m ∷ ms) ∙ ap (heads_at repo) (sym cut)) ∙ e1.1 in
         let rest_is : rest ≡ m ++ slashed ms = cut_rest rest m ms some.2 in
-        listed_any m (listed_there (kind_there m ms there)) (under ms (name_is name rest m ms is rest_is))
+        listed_any name m (listed_there m (kind_there m ms there)) (under m name ms (name_is name rest m ms is rest_is))
       where
         cut_rest : (rest m : List ℕ) (ms : Names) → pieces rest ≡ m ∷ ms → rest ≡ m ++ slashed ms
         cut_rest rest m ms e =
@@ -321,9 +322,9 @@ module _ (repo : Names) (g : Ground) (ground : IsGround g) where
         or_left : (x y : Bool) → x ≡ true → (x || y) ≡ true
         or_left x y h = λ i. h i || y
 
-        under : {m name : List ℕ} (ms : Names) → name ≡ (front ++ m) ++ slashed ms → lies_under (front ++ m) name ≡ true
-        under {m} {name} [] e = or_left _ _ ((bytes_eq-Decides (front ++ m) name).1 (sym (e ∙ append-nil (front ++ m))))
-        under {m} {name} (k ∷ ks) e = or_right _ _
+        under : (m name : List ℕ) (ms : Names) → name ≡ (front ++ m) ++ slashed ms → lies_under (front ++ m) name ≡ true
+        under m name [] e = or_left _ _ ((bytes_eq-Decides (front ++ m) name).1 (sym (e ∙ append-nil (front ++ m))))
+        under m name (k ∷ ks) e = or_right _ _
             (ap (λ (z : List ℕ). starts_with nat_eq z ((front ++ m) ++ slash ∷ [])) (e ∙ sym (append_assoc (front ++ m) (slash ∷ []) (k ++ slashed ks)))
             ∙ begin_is ((front ++ m) ++ slash ∷ []) (k ++ slashed ks))
 
@@ -339,33 +340,34 @@ module _ (repo : Names) (g : Ground) (ground : IsGround g) where
             dir_absent : Dir ≡ Absent → ⊥
             dir_absent e = cc e
 
-        listed_there : {m : List ℕ} → (kind_at g (place ++ m ∷ []) ≡ Absent → ⊥) → listed_kind m items ≡ Absent → ⊥
-        listed_there {m} there absent = there (sym (listing m) ∙ absent)
+        listed_there : (m : List ℕ) → (kind_at g (place ++ m ∷ []) ≡ Absent → ⊥) → listed_kind m items ≡ Absent → ⊥
+        listed_there m there absent = there (sym (listing m) ∙ absent)
 
         among : (m : List ℕ) (p : Item → Bool) → ((item : Item) → item.name ≡ m → p item ≡ true) → (items : List Item) → (listed_kind m items ≡ Absent → ⊥) → list_any p items ≡ true
         among m p fits [] there = absurd (there refl)
-        among m p fits (item ∷ items) there = by (bytes_eq m item.name) refl
+        among m p fits (item ∷ items) there = by (among m p fits items) (bytes_eq m item.name) refl
           where
-            by : (t : Bool) → bytes_eq m item.name ≡ t → list_any p (item ∷ items) ≡ true
-            by true e = or_left _ _ (fits item (sym ((bytes_eq-Decides m item.name).0 e)))
-            by false e = or_right _ _ (among m p fits items (λ absent. there (ap (λ t. cond t item.kind (listed_kind m items)) e ∙ absent)))
+            by : ((listed_kind m items ≡ Absent → ⊥) → list_any p items ≡ true) → (t : Bool) → bytes_eq m item.name ≡ t → list_any p (item ∷ items) ≡ true
+            by later true e = or_left _ _ (fits item (sym ((bytes_eq-Decides m item.name).0 e)))
+            by later false e = or_right _ _ (later (λ absent. there (ap (λ t. cond t item.kind (listed_kind m items)) e ∙ absent)))
 
-        listed_any : {name : List ℕ} (m : List ℕ) → (listed_kind m items ≡ Absent → ⊥) → lies_under (front ++ m) name ≡ true → list_any (λ item. lies_under (front ++ item.name) name) items ≡ true
-        listed_any {name} m there lies = among m (λ item. lies_under (front ++ item.name) name) (λ item same. ap (λ (n : List ℕ). lies_under (front ++ n) name) same ∙ lies) items there
+        listed_any : (name m : List ℕ) → (listed_kind m items ≡ Absent → ⊥) → lies_under (front ++ m) name ≡ true → list_any (λ item. lies_under (front ++ item.name) name) items ≡ true
+        listed_any name m there lies = among m (λ item. lies_under (front ++ item.name) name) (λ item same. ap (λ (n : List ℕ). lies_under (front ++ n) name) same ∙ lies) items there
 
     begins_so : (name : List ℕ) (items : List Item) → list_any (λ item. lies_under (front ++ item.name) name) items ≡ true → starts_with nat_eq name front ≡ true
     begins_so name [] h = absurd (cc h)
-    begins_so name (item ∷ items) h = by (bytes_eq (front ++ item.name) name) refl (starts_with nat_eq name ((front ++ item.name) ++ slash ∷ [])) refl
+    begins_so name (item ∷ items) h = by (begins_so name items) (bytes_eq (front ++ item.name) name) refl (starts_with nat_eq name ((front ++ item.name) ++ slash ∷ [])) refl
       where
         longer : (n rest : List ℕ) → name ≡ front ++ (n ++ rest) → starts_with nat_eq name front ≡ true
         longer n rest e = ap (λ (z : List ℕ). starts_with nat_eq z front) e ∙ begin_is front (n ++ rest)
 
-        by : (x : Bool) → bytes_eq (front ++ item.name) name ≡ x → (y : Bool) → starts_with nat_eq name ((front ++ item.name) ++ slash ∷ []) ≡ y → starts_with nat_eq name front ≡ true
-        by true e y f = longer item.name [] (sym ((bytes_eq-Decides (front ++ item.name) name).0 e) ∙ ap (λ (z : List ℕ). front ++ z) (sym (append-nil item.name)))
-        by false e true f =
+        by : (list_any (λ item. lies_under (front ++ item.name) name) items ≡ true → starts_with nat_eq name front ≡ true)
+            → (x : Bool) → bytes_eq (front ++ item.name) name ≡ x → (y : Bool) → starts_with nat_eq name ((front ++ item.name) ++ slash ∷ []) ≡ y → starts_with nat_eq name front ≡ true
+        by later true e y f = longer item.name [] (sym ((bytes_eq-Decides (front ++ item.name) name).0 e) ∙ ap (λ (z : List ℕ). front ++ z) (sym (append-nil item.name)))
+        by later false e true f =
             let split = begin_split name ((front ++ item.name) ++ slash ∷ []) f in
             longer item.name (slash ∷ split.0) (split.1 ∙ append_assoc (front ++ item.name) (slash ∷ []) split.0 ∙ append_assoc front item.name (slash ∷ split.0))
-        by false e false f = begins_so name items (sym (λ i. (e i || f i) || list_any (λ item. lies_under (front ++ item.name) name) items) ∙ h)
+        by later false e false f = later (sym (λ i. (e i || f i) || list_any (λ item. lies_under (front ++ item.name) name) items) ∙ h)
 
     pub walked : (before after : BTreeSet (String Global)) → AddsNames (is_under repo front g items) before after → AddsNames (begins_branch repo front g) before after
     walked before after adds = record { each = λ name. adds.each name ∙ ap (λ x. contains_text before name || x) (same name) }

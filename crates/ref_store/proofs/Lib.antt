@@ -2,6 +2,7 @@ pub mod Arriving
 pub mod Below
 pub mod Fitting
 pub mod Fronts
+pub mod Gathering
 pub mod Keeping
 pub mod KeyLists
 pub mod Leading
