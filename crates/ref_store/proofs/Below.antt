@@ -1,6 +1,6 @@
 -- The walk over what stands below `refs/heads`.
-use Rattle.std.proofs.Common.{◌≡◌, ◌⊎◌, inl, inr, ◌≤◌, ◌<◌, ◌+◌, ◌==◌, ℕ, Bool, true, false, cond, ◌&&◌, ◌||◌, not, List, [], ◌∷◌, ◌++◌, append_assoc, append-nil, length, length-append, take, drop, map, Option, Some, None, refl, sym, ap, ◌∙◌, subst, arith}
-use Rattle.std.specs.Prelude.{IsSome, IsTrue, String, string_bytes, bytes_eq, codes, nat_eq, nat_le, nat_lt}
+use Rattle.std.proofs.Common.{◌≡◌, ◌≤◌, ◌<◌, ◌+◌, ◌==◌, ℕ, Bool, true, false, cond, ◌&&◌, ◌||◌, not, List, [], ◌∷◌, ◌++◌, append_assoc, append-nil, length, length-append, take, drop, map, Some, None, refl, sym, ap, ◌∙◌, subst, arith}
+use Rattle.std.specs.Prelude.{String, string_bytes, bytes_eq, codes, nat_eq, nat_le, nat_lt}
 use Rattle.std.specs.declared.alloc.Global.{Global}
 use Rattle.std.specs.BTreeMap.{is_at}
 use Rattle.std.specs.BTreeSet.{BTreeSet, IsOrdered, contains_text}
@@ -17,14 +17,13 @@ use Rattle.std.proofs.lemmas.List.{take-append-drop}
 use Rattle.std.proofs.lemmas.List.Folds.{list_all-append, list_any-append}
 use Rattle.std.proofs.lemmas.Map.Text.{is_eq-slice_cmp}
 use Rattle.std.proofs.lemmas.Slice.Eq.{bytes_eq-Decides}
-use Rattle.places.specs.All.{Names, Ground, IsGround, file_at, is_above, is_name, is_path, pieces, slash, slashed, stands, stands_below, text_of}
+use Rattle.places.specs.All.{Names, Ground, IsGround, is_above, is_name, is_path, pieces, slash, slashed, stands, stands_below, text_of}
 use Rattle.places.proofs.Above.{is_above-complete}
 use Rattle.places.proofs.Standing.{any_key, same_truth}
 use Rattle.places.proofs.Texts.{and_both, not_true, pieces-append, pieces_one, pieces_some, slashed-append, slashed-pieces}
 use Rattle.faults.specs.declared.faults.Fault.{Fault}
 use Rattle.file_store.specs.All.{AreListed, IsListing, kind_at, listed_kind}
-use Rattle.file_store.specs.declared.kinds.Kind.{Kind}
-use Rattle.file_store.specs.declared.kinds.Kind.TheVariants.{Absent, File, Dir, Other}
+use Rattle.file_store.specs.declared.kinds.Kind.TheVariants.{Absent, File, Dir}
 use Rattle.file_store.specs.declared.kinds.Item.{Item}
 use Rattle.repository.specs.All.{branch_place, is_branch, is_branch_byte, is_component}
 use Rattle.repository.proofs.BranchNames.{branch_facts, branch_path_pieces}
@@ -226,9 +225,9 @@ module _ (repo : Names) (g : Ground) (ground : IsGround g) where
   none_begins : (path : List ℕ) (names : BTreeSet (String Global)) → ((rest name : List ℕ) → name ≡ path ++ slash ∷ rest → has_branch repo name g ≡ true → ⊥) → AddsNames (begins_branch repo (path ++ slash ∷ []) g) names names
   none_begins path names never = record {
     each = λ name. or_false _ _ (both_false (starts_with nat_eq name (path ++ slash ∷ [])) (has_branch repo name g)
-    (λ begins has.
-    let split = begin_split name (path ++ slash ∷ []) begins in
-    never split.0 name (split.1 ∙ append_assoc path (slash ∷ []) split.0) has));
+        (λ begins has.
+        let split = begin_split name (path ++ slash ∷ []) begins in
+        never split.0 name (split.1 ∙ append_assoc path (slash ∷ []) split.0) has));
   }
 
   -- names of branches can't go on there

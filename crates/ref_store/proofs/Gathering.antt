@@ -1,5 +1,5 @@
 -- What each item of a directory adds to the set of names.
-use Rattle.std.proofs.Common.{◌≡◌, ◌≤◌, ◌<◌, ◌==◌, ℕ, Bool, true, false, cond, ◌&&◌, ◌||◌, not, IsTrue, List, [], ◌∷◌, ◌++◌, append_assoc, length, length-append, Some, None, Result, Ok, Err, refl, sym, ap, ◌∙◌, subst, arith}
+use Rattle.std.proofs.Common.{◌≡◌, ◌≤◌, ◌<◌, ◌==◌, ℕ, Bool, true, false, cond, ◌&&◌, ◌||◌, not, IsTrue, List, [], ◌∷◌, ◌++◌, append_assoc, length, length-append, None, Result, Ok, Err, refl, sym, ap, ◌∙◌, subst, arith}
 use Rattle.std.specs.Prelude.{IfErr, OnOk, String, bytes_eq, codes, nat_le, nat_lt, string_bytes}
 use Rattle.std.specs.declared.alloc.Global.{Global}
 use Rattle.std.specs.BTreeSet.{BTreeSet, Updates, contains_text}
@@ -15,16 +15,14 @@ use Rattle.std.proofs.lemmas.Slice.Eq.{bytes_eq-Decides}
 use Rattle.places.specs.All.{Ground, IsGround, Names, longest, pieces, slash, stands, stands_below, text_of}
 use Rattle.std.proofs.lemmas.Bool.Decides.{nat_tests}
 use Rattle.places.proofs.Texts.{and_both, not_true, pieces_one}
-use Rattle.faults.specs.declared.faults.Fault.{Fault}
 use Rattle.faults.specs.declared.faults.Trouble.{Trouble}
 use Rattle.faults.specs.declared.faults.Trouble.TheVariants.{Device, NoMemory, Refused}
 use Rattle.file_store.specs.All.{Drive, is_item_name, kind_at, listed_kind, names_in, present}
 use Rattle.file_store.specs.declared.kinds.Item.{Item}
-use Rattle.file_store.specs.declared.kinds.Kind.{Kind}
 use Rattle.file_store.specs.declared.kinds.Kind.TheVariants.{Absent, Dir, File}
 use Rattle.acts.specs.All.{NoFault, Reads}
 use Rattle.acts.proofs.Reading.{read_gives, read_starves}
-use Rattle.repository.specs.All.{branch_place, is_branch, is_component, large}
+use Rattle.repository.specs.All.{is_branch, is_component, large}
 use Rattle.ref_store.specs.Listing.{AddsNames, AllBranches, IsBelow, begins_branch, can_hold, heads_at, is_branch_at, is_under}
 use Rattle.ref_store.specs.Reading.{long_place}
 use Rattle.ref_store.specs.Revisions.{has_branch}

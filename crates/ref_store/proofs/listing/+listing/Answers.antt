@@ -1,17 +1,14 @@
-use Rattle.std.proofs.Common.{◌≡◌, ◌≤◌, ◌<◌, ◌+◌, ◌++◌, ◌∷◌, ◌∙◌, [], List, ℕ, Bool, true, false, Some, None, length, take, drop, refl, ap, sym, subst, arith, rules}
-use Rattle.std.specs.Prelude.{String, string_bytes}
-use Rattle.std.specs.declared.alloc.Global.{Global}
-use Rattle.std.specs.BTreeSet.{BTreeSet}
+use Rattle.std.proofs.Common.{◌≡◌, ◌≤◌, ◌<◌, ◌+◌, ◌++◌, ◌∷◌, ◌∙◌, [], List, ℕ, true, false, Some, length, take, drop, refl, ap, sym, subst, arith, rules}
+use Rattle.std.specs.Prelude.{string_bytes}
 use Rattle.std.proofs.lemmas.Grind.{common_steps}
 use Rattle.std.proofs.lemmas.List.{take-append-drop}
-use Rattle.places.specs.All.{Ground, Names, pieces, slash}
+use Rattle.places.specs.All.{Ground, pieces, slash}
 use Rattle.file_store.specs.All.{History, kind_at, is_item_name, listed_kind, present}
 use Rattle.file_store.specs.declared.kinds.Item.{Item}
-use Rattle.acts.proofs.Reading.{read_gives, read_exits, read_after}
-use Rattle.ref_store.specs.Layout.{branch_path}
-use Rattle.ref_store.specs.Listing.{AddsNames, IsBelow, begins_branch, can_hold, heads_at, is_branch_at, is_under}
+use Rattle.acts.proofs.Reading.{read_gives}
+use Rattle.ref_store.specs.Listing.{AddsNames, IsBelow, begins_branch, can_hold, heads_at, is_under}
 use Rattle.ref_store.specs.Reading.{long_place}
-use Rattle.ref_store.proofs.Below.{front_path, held_is_path, none_held, none_placed, under_more, walked}
+use Rattle.ref_store.proofs.Below.{held_is_path, none_held, none_placed, under_more, walked}
 use Rattle.ref_store.proofs.Gathering.{dir_taken, held_below, held_longer, held_short, item_kind, item_named, memory_reads, other_taken, read_as}
 use Rattle.ref_store.proofs.listing.+listing.Goals as goal
 
@@ -152,5 +149,5 @@ walk-returns-clause-reads g t c =
     read_gives inv.later (λ told. (
       inv.same told,
       walked repo ground (g.met.F.Files.grounded c.args.files.now told) c.args.place.now front c.in_ok-items.items.items c.requires.1.1.1.0 ends.0 (ends.1 told).1 c.args.names.now c.loop-item.names
-      (subst (λ (l : List Item). AddsNames (is_under repo front ground l) c.args.names.now c.loop-item.names) (every ∙ c.deref-item-items.ensures.value) (inv.adds told)),
+          (subst (λ (l : List Item). AddsNames (is_under repo front ground l) c.args.names.now c.loop-item.names) (every ∙ c.deref-item-items.ensures.value) (inv.adds told)),
     ))

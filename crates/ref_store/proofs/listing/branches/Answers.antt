@@ -17,7 +17,7 @@ returns-in-Err-Refused-clause-reads g c =
     read_gives refl (λ told. (
       refl,
       subst (λ (names : List (List ℕ)). AreBranches c.args.repo.now ground names) (sym c.new.ensures.items)
-      (no_branches c.args.repo.now ground (g.met.F.Files.grounded c.args.files.now told) c.in-Err-Refused.field-0-0 long),
+          (no_branches c.args.repo.now ground (g.met.F.Files.grounded c.args.files.now told) c.in-Err-Refused.field-0-0 long),
     ))
 
 pub returns-in-Err-Refused-clause-form : goal.returns-in-Err-Refused-clause-form
