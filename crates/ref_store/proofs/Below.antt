@@ -1,136 +1,41 @@
--- The walk over what stands below `refs/heads`.
-use Rattle.std.proofs.Common.{◌≡◌, ◌≤◌, ◌<◌, ◌+◌, ◌==◌, ℕ, Bool, true, false, cond, ◌&&◌, ◌||◌, not, List, [], ◌∷◌, ◌++◌, append_assoc, append-nil, length, length-append, take, drop, map, Some, None, refl, sym, ap, ◌∙◌, subst, arith}
-use Rattle.std.specs.Prelude.{String, string_bytes, bytes_eq, codes, nat_eq, nat_le, nat_lt}
+-- What stands below `refs/heads`, and the names of branches that lie there.
+use Rattle.std.proofs.Common.{◌≡◌, ◌≤◌, ◌<◌, ◌+◌, ℕ, Bool, true, false, cond, ◌&&◌, ◌||◌, List, [], ◌∷◌, ◌++◌, append_assoc, append-nil, length, length-append, take, drop, Some, None, refl, sym, ap, ◌∙◌, arith}
+use Rattle.std.specs.Prelude.{String, bytes_eq, codes, nat_eq, nat_le, nat_lt}
 use Rattle.std.specs.declared.alloc.Global.{Global}
-use Rattle.std.specs.BTreeMap.{is_at}
-use Rattle.std.specs.BTreeSet.{BTreeSet, IsOrdered, contains_text}
-use Rattle.std.specs.Cmp.Lexicographic.{slice_cmp}
-use Rattle.std.specs.declared.cmp.Ordering.TheVariants.{Less}
-use Rattle.std.specs.List.Sorted.{IsStrictlySortedBy}
-use Rattle.std.specs.Ordering.{nat_cmp}
-use Rattle.std.specs.String.{string_cmp}
-use Rattle.std.specs.List.{AllByRecursion, list_all, list_any, ends_with, starts_with}
+use Rattle.std.specs.BTreeSet.{BTreeSet, contains_text}
+use Rattle.std.specs.List.{list_all, list_any, starts_with}
 use Rattle.std.proofs.Math.Seq.{take-append_seam}
-use Rattle.std.proofs.lemmas.Bool.{eqb-true, false_from_ne_true, false≢true}
+use Rattle.std.proofs.lemmas.Bool.{false_from_ne_true, false≢true}
 use Rattle.std.proofs.lemmas.Bool.Decides.{nat_tests}
 use Rattle.std.proofs.lemmas.List.{take-append-drop}
-use Rattle.std.proofs.lemmas.List.Folds.{list_all-append, list_any-append}
-use Rattle.std.proofs.lemmas.Map.Text.{is_eq-slice_cmp}
+use Rattle.std.proofs.lemmas.List.Folds.{list_all-append}
 use Rattle.std.proofs.lemmas.Slice.Eq.{bytes_eq-Decides}
-use Rattle.places.specs.All.{Names, Ground, IsGround, is_above, is_name, is_path, pieces, slash, slashed, stands, stands_below, text_of}
+use Rattle.places.specs.All.{Names, Ground, IsGround, is_above, pieces, slash, slashed, stands, stands_below, text_of}
 use Rattle.places.proofs.Above.{is_above-complete}
 use Rattle.places.proofs.Standing.{any_key, same_truth}
-use Rattle.places.proofs.Texts.{and_both, not_true, pieces-append, pieces_one, pieces_some, slashed-append, slashed-pieces}
+use Rattle.places.proofs.Texts.{and_both, pieces-append, pieces_some, slashed-append, slashed-pieces}
 use Rattle.faults.specs.declared.faults.Fault.{Fault}
 use Rattle.file_store.specs.All.{AreListed, IsListing, kind_at, listed_kind}
 use Rattle.file_store.specs.declared.kinds.Kind.TheVariants.{Absent, File, Dir}
 use Rattle.file_store.specs.declared.kinds.Item.{Item}
-use Rattle.repository.specs.All.{branch_place, is_branch, is_branch_byte, is_component}
-use Rattle.repository.proofs.BranchNames.{branch_facts, branch_path_pieces}
-use Rattle.ref_store.specs.Branches.{AreBranches, AreNames}
-use Rattle.ref_store.specs.Listing.{AddsNames, AllBranches, IsBelow, begins_branch, can_hold, front_of, heads_at, is_branch_at, is_under, lies_under}
-use Rattle.ref_store.specs.Layout.{branch_path}
+use Rattle.repository.specs.All.{branch_place, is_branch, is_component}
+use Rattle.repository.proofs.BranchNames.{branch_facts}
+use Rattle.ref_store.specs.Listing.{AddsNames, IsBelow, begins_branch, can_hold, heads_at, is_branch_at, is_under, lies_under}
 use Rattle.ref_store.specs.Reading.{long_place}
 use Rattle.ref_store.specs.Revisions.{has_branch}
 use Rattle.ref_store.proofs.Fitting.{short_is}
+use Rattle.std.proofs.Math.Bool.{or-false}
+use Rattle.ref_store.proofs.HeldPaths.{front_pieces}
 
 -- ---- beginnings of texts
 
-begin_is : (p r : List ℕ) → starts_with nat_eq (p ++ r) p ≡ true
+pub begin_is : (p r : List ℕ) → starts_with nat_eq (p ++ r) p ≡ true
 begin_is p r = (bytes_eq-Decides p (take (length p) (p ++ r))).1 (sym (take-append_seam p r))
 
 begin_split : (s p : List ℕ) → starts_with nat_eq s p ≡ true → (r : List ℕ) × (s ≡ p ++ r)
 begin_split s p h =
     let front : p ≡ take (length p) s = (bytes_eq-Decides p (take (length p) s)).0 h in
     (drop (length p) s, sym (take-append-drop (length p) s) ∙ ap (λ (z : List ℕ). z ++ drop (length p) s) (sym front))
-
--- ---- parts with slashes behind them
-
-lacks : (c : ℕ) → is_branch_byte c ≡ false → (part : List ℕ) → list_all is_branch_byte part ≡ true → list_any (λ b. b == c) part ≡ false
-lacks c other [] h = refl
-lacks c other (b ∷ part) h =
-    let parts = and_both (is_branch_byte b) (list_all is_branch_byte part) h in
-    let own : (b == c) ≡ false = false_from_ne_true _ (λ e. false≢true (sym other ∙ ap is_branch_byte (sym (eqb-true b c e)) ∙ parts.0)) in
-    λ i. own i || lacks c other part parts.1 i
-
-undotted : (rest part : List ℕ) → starts_with nat_eq part (codes ".") ≡ false → bytes_eq part (46 ∷ rest) ≡ false
-undotted rest [] h = refl
-undotted rest (b ∷ part) h = at (b == 46) refl
-  where
-    at : (t : Bool) → (b == 46) ≡ t → (t && bytes_eq part rest) ≡ false
-    at false is = refl
-    at true is = absurd (false≢true (sym h ∙ ap (λ (x : ℕ). starts_with nat_eq (x ∷ part) (codes ".")) (eqb-true b 46 is)))
-
--- what is used of a part
-record PartFacts (part : List ℕ) : Type 0 where
-  filled : nat_lt 0 (length part) ≡ true
-  plain : list_all is_branch_byte part ≡ true
-  dot : starts_with nat_eq part (codes ".") ≡ false
-
-part_facts : (part : List ℕ) → is_component part ≡ true → PartFacts part
-part_facts part h =
-    let e1 = and_both _ (not (ends_with nat_eq part (codes ".lock"))) h in
-    let e2 = and_both _ (not (starts_with nat_eq part (codes "-"))) e1.0 in
-    let e3 = and_both _ (not (starts_with nat_eq part (codes "."))) e2.0 in
-    let e4 = and_both (nat_lt 0 (length part)) (list_all is_branch_byte part) e3.0 in
-    record { filled = e4.0; plain = e4.1; dot = not_true _ e3.1 }
-
-part_whole : (part : List ℕ) → is_component part ≡ true → list_any (λ b. b == slash) part ≡ false
-part_whole part h = lacks slash refl part (part_facts part h).plain
-
-part_name : (part : List ℕ) → length part ≤ 255 → is_component part ≡ true → is_name part ≡ true
-unfolding is_name
-part_name part short h =
-    let facts = part_facts part h in
-    let within : nat_le (length part) 255 ≡ true = grind (arith, nat_tests) in
-    λ i. facts.filled i && within i && not (undotted [] part facts.dot i) && not (undotted (46 ∷ []) part facts.dot i)
-    && not (lacks 0 refl part facts.plain i) && not (lacks slash refl part facts.plain i)
-
-part_names : (ns : Names) → length (slashed ns) ≤ 256 → list_all is_component ns ≡ true → list_all is_name ns ≡ true
-part_names [] short h = refl
-part_names (n ∷ ns) short h =
-    let parts = and_both (is_component n) (list_all is_component ns) h in
-    let size = length-append n (slashed ns) in
-    let first : length n ≤ 255 = omega arith in
-    let rest : length (slashed ns) ≤ 256 = omega arith in
-    λ i. part_name n first parts.0 i && part_names ns rest parts.1 i
-
--- a directory in which branches can be
-pub held_is_path : (path : List ℕ) → can_hold path ≡ true → is_path (branch_path path) ≡ true
-unfolding is_path is_name
-held_is_path path h =
-    let parts = and_both (nat_lt (length path) 199) (list_all is_component (pieces path)) h in
-    let short : length path < 199 = below (length path) parts.0 in
-    let size : length (slashed (pieces path)) ≤ 256 = omega (arith, ap length (slashed-pieces path), short) in
-    ap (list_all is_name) (branch_path_pieces path) ∙ part_names (pieces path) size parts.1
-  where
-    below : (n : ℕ) → nat_lt n 199 ≡ true → n < 199
-    below n h = grind (arith, nat_tests)
-
-pub front_pieces : (parts : Names) (rest : List ℕ) → list_all is_component parts ≡ true → pieces (front_of parts ++ rest) ≡ parts ++ pieces rest
-front_pieces [] rest form = refl
-front_pieces (part ∷ parts) rest form =
-    let each = and_both (is_component part) (list_all is_component parts) form in
-    ap pieces (append_assoc part (slash ∷ front_of parts) rest)
-    ∙ pieces-append part (front_of parts ++ rest)
-    ∙ (λ i. pieces_one part (part_whole part each.0) i ++ front_pieces parts rest each.1 i)
-
-slashed_front : (parts : Names) → slash ∷ front_of parts ≡ slashed parts ++ slash ∷ []
-slashed_front [] = refl
-slashed_front (part ∷ parts) =
-    ap (λ (z : List ℕ). slash ∷ (part ++ z)) (slashed_front parts)
-    ∙ ap (λ (z : List ℕ). slash ∷ z) (sym (append_assoc part (slashed parts) (slash ∷ [])))
-
--- a path with a slash behind it
-pub front_path : (path : List ℕ) → path ++ slash ∷ [] ≡ front_of (pieces path)
-front_path path =
-    let e : slash ∷ front_of (pieces path) ≡ slash ∷ (path ++ slash ∷ []) = slashed_front (pieces path) ∙ ap (λ (z : List ℕ). z ++ slash ∷ []) (slashed-pieces path) in
-    sym (cc e)
-
--- no names at all
-pub no_names : AreNames []
-unfolding IsStrictlySortedBy
-no_names = record { ascending = tt; named = refl }
 
 -- ---- what stands below a place
 
@@ -154,6 +59,28 @@ file_here repo g path name same has =
     let there : stands g (heads_at repo (pieces path)) ≡ true = ap (λ (z : List ℕ). stands g (heads_at repo (pieces z))) same ∙ e1.1 in
     (λ i. cond (there i) File (cond (stands_below g (heads_at repo (pieces path))) Dir Absent))
 
+-- ---- tests of which one is false
+
+pub or_same : (a b : Bool) → b ≡ false → a ≡ (a || b)
+or_same a b h = sym (or-false a) ∙ ap (λ x. a || x) (sym h)
+
+both_false : (x z : Bool) → (x ≡ true → z ≡ true → ⊥) → (x && z) ≡ false
+both_false true true h = absurd (h refl refl)
+both_false true false h = refl
+both_false false z h = refl
+
+left_only : (x y z : Bool) → (y ≡ true → z ≡ true → ⊥) → ((x && z) ≡ ((x || y) && z))
+left_only true y z h = refl
+left_only false true true h = absurd (h refl refl)
+left_only false true false h = refl
+left_only false false z h = refl
+
+right_only : (x y z : Bool) → (x ≡ true → z ≡ true → ⊥) → ((y && z) ≡ ((x || y) && z))
+right_only true y true h = absurd (h refl refl)
+right_only true true false h = refl
+right_only true false false h = refl
+right_only false y z h = refl
+
 module _ (repo : Names) (g : Ground) (ground : IsGround g) where
   -- a branch below a path shows that a directory is there
   pub under_dir : (path rest name : List ℕ) → name ≡ path ++ slash ∷ rest → has_branch repo name g ≡ true → kind_at g (heads_at repo (pieces path)) ≡ Dir
@@ -167,27 +94,11 @@ module _ (repo : Names) (g : Ground) (ground : IsGround g) where
   dir_no_file : Dir ≡ File → ⊥
   dir_no_file e = cc e
 
-  left_only : (x y z : Bool) → (y ≡ true → z ≡ true → ⊥) → ((x && z) ≡ ((x || y) && z))
-  left_only true y z h = refl
-  left_only false true true h = absurd (h refl refl)
-  left_only false true false h = refl
-  left_only false false z h = refl
-
-  right_only : (x y z : Bool) → (x ≡ true → z ≡ true → ⊥) → ((y && z) ≡ ((x || y) && z))
-  right_only true y true h = absurd (h refl refl)
-  right_only true true false h = refl
-  right_only true false false h = refl
-  right_only false y z h = refl
-
-  or_nothing : (x : Bool) → x ≡ (x || false)
-  or_nothing true = refl
-  or_nothing false = refl
-
   module _ (front path : List ℕ) (item : Item) (before after : BTreeSet (String Global)) (is : path ≡ front ++ item.name) where
     one_under : (name : List ℕ) → (lies_under path name && has_branch repo name g) ≡ is_under repo front g (item ∷ []) name
     one_under name =
         ap (λ (p : List ℕ). lies_under p name && has_branch repo name g) is
-        ∙ ap (λ b. b && has_branch repo name g) (or_nothing (lies_under (front ++ item.name) name))
+        ∙ ap (λ b. b && has_branch repo name g) (sym (or-false (lies_under (front ++ item.name) name)))
 
     -- an item that is no directory has no branch below it
     pub take_file : (kind_at g (heads_at repo (pieces path)) ≡ Dir → ⊥) → AddsNames (is_branch_at repo path g) before after → AddsNames (is_under repo front g (item ∷ [])) before after
@@ -213,18 +124,9 @@ module _ (repo : Names) (g : Ground) (ground : IsGround g) where
           ∙ one_under name);
     }
 
-  or_false : (a b : Bool) → b ≡ false → a ≡ (a || b)
-  or_false true b h = refl
-  or_false false b h = sym h
-
-  both_false : (x z : Bool) → (x ≡ true → z ≡ true → ⊥) → (x && z) ≡ false
-  both_false true true h = absurd (h refl refl)
-  both_false true false h = refl
-  both_false false z h = refl
-
   none_begins : (path : List ℕ) (names : BTreeSet (String Global)) → ((rest name : List ℕ) → name ≡ path ++ slash ∷ rest → has_branch repo name g ≡ true → ⊥) → AddsNames (begins_branch repo (path ++ slash ∷ []) g) names names
   none_begins path names never = record {
-    each = λ name. or_false _ _ (both_false (starts_with nat_eq name (path ++ slash ∷ [])) (has_branch repo name g)
+    each = λ name. or_same _ _ (both_false (starts_with nat_eq name (path ++ slash ∷ [])) (has_branch repo name g)
         (λ begins has.
         let split = begin_split name (path ++ slash ∷ []) begins in
         never split.0 name (split.1 ∙ append_assoc path (slash ∷ []) split.0) has));
@@ -254,7 +156,7 @@ module _ (repo : Names) (g : Ground) (ground : IsGround g) where
       low n h = grind (arith, nat_tests)
 
   -- no place is so long
-  too_long : (front rest : Names) (name : List ℕ) (fault : Fault) → pieces name ≡ front ++ rest → long_place (heads_at repo front) ≡ Some fault → has_branch repo name g ≡ true → ⊥
+  pub too_long : (front rest : Names) (name : List ℕ) (fault : Fault) → pieces name ≡ front ++ rest → long_place (heads_at repo front) ≡ Some fault → has_branch repo name g ≡ true → ⊥
   too_long front rest name fault cut long has =
       let e1 = and_both _ (stands g (branch_place repo name)) has in
       let e2 = and_both (is_branch name) _ e1.0 in
@@ -282,13 +184,6 @@ module _ (repo : Names) (g : Ground) (ground : IsGround g) where
 
   pub none_placed : (path : List ℕ) (names : BTreeSet (String Global)) (fault : Fault) → long_place (heads_at repo (pieces path)) ≡ Some fault → AddsNames (begins_branch repo (path ++ slash ∷ []) g) names names
   none_placed path names fault long = none_begins path names (λ rest name is has. too_long (pieces path) (pieces rest) name fault (ap pieces is ∙ pieces-append path rest) long has)
-
-  -- no branch has a place
-  pub no_branches : (fault : Fault) → long_place (heads_at repo []) ≡ Some fault → AreBranches repo g []
-  no_branches fault long = record {
-    form = no_names;
-    among = λ name. sym (false_from_ne_true _ (λ has. too_long [] (pieces name) name fault refl long has));
-  }
 
   -- ---- all items of a directory
 
@@ -378,79 +273,3 @@ module _ (repo : Names) (g : Ground) (ground : IsGround g) where
             let p = and_both (starts_with nat_eq name front) (has_branch repo name g) h in
             let split = begin_split name front p.0 in
             (λ i. has_item name split.0 split.1 p.1 i && p.1 i))
-
--- ---- one item after another
-
-pub under_none : (repo : Names) (front : List ℕ) (g : Ground) (names : BTreeSet (String Global)) → AddsNames (is_under repo front g []) names names
-under_none repo front g names = record { each = λ name. or_nothing (contains_text names name) }
-  where
-    or_nothing : (x : Bool) → x ≡ (x || false)
-    or_nothing true = refl
-    or_nothing false = refl
-
-pub under_more : (repo : Names) (front : List ℕ) (g : Ground) (items : List Item) (item : Item) (old mid new : BTreeSet (String Global)) → AddsNames (is_under repo front g items) old mid → AddsNames (is_under repo front g (item ∷ [])) mid new → AddsNames (is_under repo front g (items ++ item ∷ [])) old new
-under_more repo front g items item old mid new before one = record {
-  each = λ name.
-      let under = λ (x : Item). lies_under (front ++ x.name) name in
-      one.each name
-      ∙ ap (λ b. b || is_under repo front g (item ∷ []) name) (before.each name)
-      ∙ three (contains_text old name) (list_any under items) (list_any under (item ∷ [])) (has_branch repo name g)
-      ∙ ap (λ b. contains_text old name || (b && has_branch repo name g)) (sym (list_any-append under items (item ∷ [])));
-}
-  where
-    three : (h x y z : Bool) → ((h || (x && z)) || (y && z)) ≡ (h || ((x || y) && z))
-    three true x y z = refl
-    three false true true true = refl
-    three false true true false = refl
-    three false true false z = or_nothing z
-      where
-        or_nothing : (z : Bool) → (z || false) ≡ z
-        or_nothing true = refl
-        or_nothing false = refl
-    three false false y z = refl
-
--- ---- the set as a list
-
-after_all : (k : String Global) (ks : List (String Global)) → AllByRecursion (λ y. string_cmp k y ≡ Less) ks → AllByRecursion (λ t. slice_cmp nat_cmp (string_bytes k) t ≡ Less) (map (λ (name : String Global). string_bytes name) ks)
-after_all k [] less = tt
-after_all k (l ∷ ks) less = (less.0, after_all k ks less.1)
-
-ascends : (ks : List (String Global)) → IsStrictlySortedBy string_cmp ks → IsStrictlySortedBy (slice_cmp nat_cmp) (map (λ (name : String Global). string_bytes name) ks)
-unfolding IsStrictlySortedBy
-ascends [] sorted = tt
-ascends (k ∷ ks) sorted = (after_all k ks sorted.0, ascends ks sorted.1)
-
-abbrev is_same : List ℕ → String Global → Bool
-is_same name = is_at (λ (k : String Global). slice_cmp nat_cmp name (string_bytes k))
-
-among_keys : (name : List ℕ) (ks : List (String Global)) → list_any (bytes_eq name) (map (λ (k : String Global). string_bytes k) ks) ≡ list_any (is_same name) ks
-among_keys name [] = refl
-among_keys name (k ∷ ks) = λ i. sym (is_eq-slice_cmp name (string_bytes k)) i || among_keys name ks i
-
-all_keys : (ks : List (String Global)) → ((name : List ℕ) → list_any (is_same name) ks ≡ true → is_branch name ≡ true) → list_all is_branch (map (λ (k : String Global). string_bytes k) ks) ≡ true
-all_keys [] h = refl
-all_keys (k ∷ ks) h = both _ _
-    (h (string_bytes k) (ap (λ b. b || list_any (is_same (string_bytes k)) ks) (is_eq-slice_cmp (string_bytes k) (string_bytes k) ∙ (bytes_eq-Decides (string_bytes k) (string_bytes k)).1 refl)))
-    (all_keys ks (λ name e. h name (later (is_same name k) _ e)))
-  where
-    both : (a b : Bool) → a ≡ true → b ≡ true → (a && b) ≡ true
-    both a b x y = λ i. x i && y i
-
-    later : (a b : Bool) → b ≡ true → (a || b) ≡ true
-    later true b h = refl
-    later false b h = h
-
-pub are_names : (list : List (List ℕ)) (names : BTreeSet (String Global)) → list ≡ map (λ (name : String Global). string_bytes name) names.keys → IsOrdered string_cmp names → AllBranches names → AreNames list
-are_names list names is ordered all = record {
-  ascending = subst (λ (l : List (List ℕ)). IsStrictlySortedBy (slice_cmp nat_cmp) l) (sym is) (ascends names.keys ordered);
-  named = ap (list_all is_branch) is ∙ all_keys names.keys (λ name h. all.each name h);
-}
-
-pub are_branches : (repo : Names) (g : Ground) (list : List (List ℕ)) (none names : BTreeSet (String Global)) → none.keys ≡ [] → list ≡ map (λ (name : String Global). string_bytes name) names.keys → AreNames list → AddsNames (begins_branch repo [] g) none names → AreBranches repo g list
-are_branches repo g list none names empty is form adds = record {
-  form = form;
-  among = λ name.
-      ap (list_any (bytes_eq name)) is ∙ among_keys name names.keys ∙ adds.each name
-      ∙ ap (λ (ks : List (String Global)). list_any (is_same name) ks || begins_branch repo [] g name) empty
-      ∙ ap (λ b. b && has_branch repo name g) (begin_is [] name);
-}

@@ -1,5 +1,5 @@
 -- What each item of a directory adds to the set of names.
-use Rattle.std.proofs.Common.{◌≡◌, ◌≤◌, ◌<◌, ◌==◌, ℕ, Bool, true, false, cond, ◌&&◌, ◌||◌, not, IsTrue, List, [], ◌∷◌, ◌++◌, append_assoc, length, length-append, None, Result, Ok, Err, refl, sym, ap, ◌∙◌, subst, arith}
+use Rattle.std.proofs.Common.{◌≡◌, ◌==◌, ℕ, Bool, true, false, cond, ◌&&◌, ◌||◌, not, IsTrue, List, [], ◌∷◌, ◌++◌, append_assoc, length, None, Result, Ok, Err, refl, sym, ap, ◌∙◌, subst, arith}
 use Rattle.std.specs.Prelude.{IfErr, OnOk, String, bytes_eq, codes, nat_le, nat_lt, string_bytes}
 use Rattle.std.specs.declared.alloc.Global.{Global}
 use Rattle.std.specs.BTreeSet.{BTreeSet, Updates, contains_text}
@@ -7,10 +7,9 @@ use Rattle.std.specs.Cmp.Lexicographic.{slice_cmp}
 use Rattle.std.specs.declared.cmp.Ordering.TheVariants.{Less}
 use Rattle.std.specs.List.{AllByRecursion, list_all, list_any}
 use Rattle.std.specs.List.Sorted.{IsStrictlySortedBy}
-use Rattle.std.specs.Ordering.{is_eq, nat_cmp}
+use Rattle.std.specs.Ordering.{nat_cmp}
 use Rattle.std.specs.String.{string_cmp}
-use Rattle.std.proofs.lemmas.Bool.{false_from_ne_true, false≢true}
-use Rattle.std.proofs.lemmas.Map.Text.{is_eq-slice_cmp, btree_set_updates_text}
+use Rattle.std.proofs.lemmas.Map.Text.{btree_set_updates_text}
 use Rattle.std.proofs.lemmas.Slice.Eq.{bytes_eq-Decides}
 use Rattle.places.specs.All.{Ground, IsGround, Names, longest, pieces, slash, stands, stands_below, text_of}
 use Rattle.std.proofs.lemmas.Bool.Decides.{nat_tests}
@@ -22,21 +21,17 @@ use Rattle.file_store.specs.declared.kinds.Item.{Item}
 use Rattle.file_store.specs.declared.kinds.Kind.TheVariants.{Absent, Dir, File}
 use Rattle.acts.specs.All.{NoFault, Reads}
 use Rattle.acts.proofs.Reading.{read_gives, read_starves}
-use Rattle.repository.specs.All.{is_branch, is_component, large}
-use Rattle.ref_store.specs.Listing.{AddsNames, AllBranches, IsBelow, begins_branch, can_hold, heads_at, is_branch_at, is_under}
+use Rattle.repository.specs.All.{is_branch, large}
+use Rattle.ref_store.specs.Listing.{AddsNames, AllBranches, IsBelow, begins_branch, heads_at, is_branch_at, is_under, lies_under}
 use Rattle.ref_store.specs.Reading.{long_place}
 use Rattle.ref_store.specs.Revisions.{has_branch}
-use Rattle.ref_store.proofs.Below.{file_here, front_path, front_pieces, take_dir, take_file}
+use Rattle.std.proofs.Math.Bool.{or-false, or-true}
+use Rattle.std.proofs.lemmas.List.Folds.{list_any-append}
+use Rattle.ref_store.proofs.HeldPaths.{front_pieces}
+use Rattle.ref_store.proofs.KeyLists.{less_other}
+use Rattle.ref_store.proofs.Below.{file_here, or_same, take_dir, take_file}
 
 -- ---- a file at a path
-
-or_other : (x : Bool) → true ≡ (x || true)
-or_other true = refl
-or_other false = refl
-
-or_nothing : (x : Bool) → x ≡ (x || false)
-or_nothing true = refl
-or_nothing false = refl
 
 module _ (repo : Names) (g : Ground) (path : List ℕ) (before after : BTreeSet (String Global)) where
   file_stands : (p : Names) → kind_at g p ≡ File → stands g p ≡ true
@@ -67,18 +62,14 @@ module _ (repo : Names) (g : Ground) (path : List ℕ) (before after : BTreeSet 
       at : (name : List ℕ) (t : Bool) → bytes_eq path name ≡ t → cond (bytes_eq path name) true (contains_text before name) ≡ (contains_text before name || is_branch_at repo path g name)
       at name true e =
           let has : has_branch repo name g ≡ true = ap (λ (p : List ℕ). has_branch repo p g) (sym ((bytes_eq-Decides path name).0 e)) ∙ is_there named fits file in
-          ap (λ b. cond b true (contains_text before name)) e ∙ or_other (contains_text before name) ∙ (λ i. contains_text before name || (sym e i && sym has i))
+          ap (λ b. cond b true (contains_text before name)) e ∙ sym (or-true (contains_text before name)) ∙ (λ i. contains_text before name || (sym e i && sym has i))
       at name false e =
-          ap (λ b. cond b true (contains_text before name)) e ∙ or_nothing (contains_text before name) ∙ ap (λ b. contains_text before name || (b && has_branch repo name g)) (sym e)
+          ap (λ b. cond b true (contains_text before name)) e ∙ sym (or-false (contains_text before name)) ∙ ap (λ b. contains_text before name || (b && has_branch repo name g)) (sym e)
 
   -- what is no file is no branch
   pub not_added : (kind_at g (heads_at repo (pieces path)) ≡ File → ⊥) → AddsNames (is_branch_at repo path g) before before
-  not_added other = record { each = λ name. or_false _ _ (at name (bytes_eq path name) refl (has_branch repo name g) refl) }
+  not_added other = record { each = λ name. or_same _ _ (at name (bytes_eq path name) refl (has_branch repo name g) refl) }
     where
-      or_false : (a b : Bool) → b ≡ false → a ≡ (a || b)
-      or_false true b h = refl
-      or_false false b h = sym h
-
       at : (name : List ℕ) (t : Bool) → bytes_eq path name ≡ t → (b : Bool) → has_branch repo name g ≡ b → is_branch_at repo path g name ≡ false
       at name true e true f = absurd (other (file_here repo g path name ((bytes_eq-Decides path name).0 e) f))
       at name true e false f = (λ i. e i && f i)
@@ -93,22 +84,6 @@ all_added before after key named updates all = record {
     at : (name : List ℕ) (t : Bool) → bytes_eq (string_bytes key) name ≡ t → cond (bytes_eq (string_bytes key) name) true (contains_text before name) ≡ true → is_branch name ≡ true
     at name true e h = ap is_branch (sym ((bytes_eq-Decides (string_bytes key) name).0 e)) ∙ named
     at name false e h = all.each name (sym (ap (λ t. cond t true (contains_text before name)) e) ∙ h)
-
--- ---- a directory in which branches can be
-
-pub held_below : (repo place : Names) (path text : List ℕ) → can_hold path ≡ true → text ≡ path ++ slash ∷ [] → place ≡ heads_at repo (pieces path) → IsBelow repo place text
-held_below repo place path text held is at = record { parts = pieces path; form = (and_both _ (list_all is_component (pieces path)) held).1; text = is ∙ front_path path; at = at }
-
-pub held_short : (path text : List ℕ) → can_hold path ≡ true → text ≡ path ++ slash ∷ [] → length text ≤ 200
-held_short path text held is =
-    let short : length path < 199 = below (length path) (and_both (nat_lt (length path) 199) _ held).0 in
-    omega (arith, short, ap length is, length-append path (slash ∷ []))
-  where
-    below : (n : ℕ) → nat_lt n 199 ≡ true → n < 199
-    below n h = grind (arith, nat_tests)
-
-pub held_longer : (front name path text : List ℕ) → path ≡ front ++ name → text ≡ path ++ slash ∷ [] → length front < length text
-held_longer front name path text whole is = omega (arith, ap length is, length-append path (slash ∷ []), ap length whole, length-append front name)
 
 -- ---- an item of a directory
 
@@ -147,13 +122,30 @@ own_kind : (before after : List Item) (item : Item) → IsStrictlySortedBy (slic
 unfolding IsStrictlySortedBy
 own_kind [] after item sorted = ap (λ t. cond t item.kind (listed_kind item.name after)) ((bytes_eq-Decides item.name item.name).1 refl)
 own_kind (x ∷ before) after item sorted =
-    let other : bytes_eq x.name item.name ≡ false = sym (is_eq-slice_cmp x.name item.name) ∙ ap is_eq (less_at x.name before after item sorted.0) in
-    let apart : bytes_eq item.name x.name ≡ false = false_from_ne_true _ (λ e. false≢true (sym other ∙ (bytes_eq-Decides x.name item.name).1 (sym ((bytes_eq-Decides item.name x.name).0 e)))) in
-    ap (λ t. cond t x.kind (listed_kind item.name (before ++ item ∷ after))) apart ∙ own_kind before after item sorted.1
+    ap (λ t. cond t x.kind (listed_kind item.name (before ++ item ∷ after))) (less_other x.name item.name (less_at x.name before after item sorted.0)) ∙ own_kind before after item sorted.1
 
 pub item_kind : (items before after : List Item) (item : Item) → items ≡ before ++ item ∷ after → IsStrictlySortedBy (slice_cmp nat_cmp) (names_in items) → listed_kind item.name items ≡ item.kind
 item_kind items before after item split sorted =
     ap (listed_kind item.name) split ∙ own_kind before after item (subst (λ (l : List Item). IsStrictlySortedBy (slice_cmp nat_cmp) (names_in l)) split sorted)
+
+-- ---- one item after another
+
+pub under_more : (repo : Names) (front : List ℕ) (g : Ground) (items : List Item) (item : Item) (old mid new : BTreeSet (String Global)) → AddsNames (is_under repo front g items) old mid → AddsNames (is_under repo front g (item ∷ [])) mid new → AddsNames (is_under repo front g (items ++ item ∷ [])) old new
+under_more repo front g items item old mid new before one = record {
+  each = λ name.
+      let under = λ (x : Item). lies_under (front ++ x.name) name in
+      one.each name
+      ∙ ap (λ b. b || is_under repo front g (item ∷ []) name) (before.each name)
+      ∙ three (contains_text old name) (list_any under items) (list_any under (item ∷ [])) (has_branch repo name g)
+      ∙ ap (λ b. contains_text old name || (b && has_branch repo name g)) (sym (list_any-append under items (item ∷ [])));
+}
+  where
+    three : (h x y z : Bool) → ((h || (x && z)) || (y && z)) ≡ (h || ((x || y) && z))
+    three true x y z = refl
+    three false true true true = refl
+    three false true true false = refl
+    three false true false z = or-false z
+    three false false y z = refl
 
 -- ---- readings that refuse nothing
 

@@ -1,7 +1,8 @@
 // All branches of a repository.
 //
-// A directory below `refs/heads` is gone into where the names of branches can lie below it. A listing ascends by the
-// names of one directory, and names of branches don't: `a.b` comes between `a` and `a/c`. So they go through a set.
+// A directory below `refs/heads` is entered where names of branches can go on after its path. Names are short, so at
+// most a hundred directories are entered one in the other. Whole names don't ascend in the order of such a walk: `a` is
+// listed before `a.b`, but `a.b` comes before `a/c`. So they go through a set.
 ghost use Rattle.std.specs.Prelude.{◌≡◌, ◌≤◌, ◌++◌, ◌∷◌, [], List, ℕ, map, length, string_bytes};
 ghost use Rattle.std.specs.Prelude.{IfErr, IfOk, OnOk, MatchOption, IsTrue, None, Some};
 ghost use Rattle.std.specs.BTreeSet.{IsOrdered};

@@ -8,8 +8,9 @@ use Rattle.file_store.specs.declared.kinds.Item.{Item}
 use Rattle.acts.proofs.Reading.{read_gives}
 use Rattle.ref_store.specs.Listing.{AddsNames, IsBelow, begins_branch, can_hold, heads_at, is_under}
 use Rattle.ref_store.specs.Reading.{long_place}
-use Rattle.ref_store.proofs.Below.{held_is_path, none_held, none_placed, under_more, walked}
-use Rattle.ref_store.proofs.Gathering.{dir_taken, held_below, held_longer, held_short, item_kind, item_named, memory_reads, other_taken, read_as}
+use Rattle.ref_store.proofs.Below.{none_held, none_placed, walked}
+use Rattle.ref_store.proofs.Gathering.{dir_taken, item_kind, item_named, memory_reads, other_taken, read_as, under_more}
+use Rattle.ref_store.proofs.HeldPaths.{held_below, held_is_path, held_longer, held_short}
 use Rattle.ref_store.proofs.listing.+listing.Goals as goal
 
 pub take_item-returns-in_default : goal.take_item-returns-in_default

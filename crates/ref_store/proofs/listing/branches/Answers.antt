@@ -3,7 +3,7 @@ use Rattle.places.specs.All.{is_name, is_path}
 use Rattle.file_store.specs.All.{present}
 use Rattle.acts.proofs.Reading.{read_gives}
 use Rattle.ref_store.specs.Branches.{AreBranches, AreNames}
-use Rattle.ref_store.proofs.Below.{are_branches, are_names, no_branches, no_names}
+use Rattle.ref_store.proofs.NameLists.{are_branches, are_names, no_branches, no_names}
 use Rattle.ref_store.proofs.listing.branches.Goals as goal
 
 pub place_at-requires : goal.place_at-requires
