@@ -6,7 +6,7 @@ use faults::{Fault, Trouble};
 use file_store::{Files, MemFiles};
 use git_objects::Id;
 use places::{Place, Text};
-use ref_store::{Head, is_branch, make_branch, read_head, set_head, set_tip, tip};
+use ref_store::{Head, branches, is_branch, make_branch, read_head, set_head, set_tip, tip};
 use std::alloc::{AllocError, Global};
 use std::process::Abort;
 

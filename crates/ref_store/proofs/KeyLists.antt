@@ -20,7 +20,7 @@ order x y = slice_cmp nat_cmp x y
 abbrev member : List ℕ → List (List ℕ) → Bool
 member k ks = list_any (λ x. bytes_eq x k) ks
 
-less_other : (x y : List ℕ) → order x y ≡ Less → bytes_eq y x ≡ false
+pub less_other : (x y : List ℕ) → order x y ≡ Less → bytes_eq y x ≡ false
 less_other x y less = by (bytes_eq y x) refl
   where
     by : (b : Bool) → bytes_eq y x ≡ b → bytes_eq y x ≡ false

@@ -1,10 +1,14 @@
 pub mod Arriving
+pub mod Below
 pub mod Fitting
 pub mod Fronts
+pub mod Gathering
+pub mod HeldPaths
 pub mod Keeping
 pub mod KeyLists
 pub mod Leading
 pub mod Makes
+pub mod NameLists
 pub mod Once
 pub mod Searching
 pub mod Sets

@@ -1,5 +1,5 @@
 -- The words of this crate, for those above.
-pub use Rattle.ref_store.specs.Branches.{MayMakeBranch, make_fault}
+pub use Rattle.ref_store.specs.Branches.{AreBranches, AreNames, MayMakeBranch, make_fault}
 pub use Rattle.ref_store.specs.Branches.{name_fault, there_fault}
 unfoldable pub use Rattle.ref_store.specs.Branches.{makes_branch}
 pub use Rattle.ref_store.specs.Forms.{IsNamed, attached, branch_of, detached, head_given, head_text}

@@ -1,5 +1,10 @@
--- Branches that are made.
-use Rattle.std.specs.Prelude.{◌≡◌, ℕ, Bool, IsTrue, if◌then◌else◌, List, Option, Some, None}
+-- Branches that are made, and all that stand.
+use Rattle.std.specs.Prelude.{◌≡◌, ℕ, Bool, true, IsTrue, if◌then◌else◌, List, Option, Some, None}
+use Rattle.std.specs.Prelude.{bytes_eq}
+use Rattle.std.specs.List.{list_all, list_any}
+use Rattle.std.specs.List.Sorted.{IsStrictlySortedBy}
+use Rattle.std.specs.Ordering.{nat_cmp}
+use Rattle.std.specs.Cmp.Lexicographic.{slice_cmp}
 use Rattle.places.specs.All.{Names, Ground}
 use Rattle.file_store.specs.All.{or_next}
 use Rattle.faults.specs.declared.faults.Fault.{Fault}
@@ -37,3 +42,13 @@ MayMakeBranch tells repo name (BranchThere other) = (other ≡ name) × IsTrue (
 MayMakeBranch tells repo name (TooLarge path size) = IsOver repo_limit repo path size
 MayMakeBranch tells repo name (Blocked at) = IsTrue tells
 MayMakeBranch tells repo name fault = ⊥
+
+-- Names of branches, ascending in byte order.
+pub record AreNames (names : List (List ℕ)) : Type 0 where
+  pub ascending : IsStrictlySortedBy (slice_cmp nat_cmp) names
+  pub named : list_all is_branch names ≡ true
+
+-- These are the names of all branches that stand; files with other names are passed over.
+pub record AreBranches (repo : Names) (g : Ground) (names : List (List ℕ)) : Type 0 where
+  pub form : AreNames names
+  pub among : (name : List ℕ) → list_any (bytes_eq name) names ≡ has_branch repo name g

@@ -3,6 +3,7 @@ pub mod Branches
 pub mod Forms
 pub mod Laws
 pub mod Layout
+pub mod Listing
 pub mod Reading
 pub mod Resolving
 pub mod RevisionWords

@@ -11,8 +11,8 @@ use places::{Place, Text};
 use repository::{PLACE_LIMIT, too_large};
 use std::alloc::{AllocError, Global};
 
-// The place at a path, refused where it is longer than places are.
-fn place_at(alloc: Global, repo: &Place, path: &str) -> Result<Place, Trouble>
+/// The place at a path, refused where it is longer than places are.
+pub(crate) fn place_at(alloc: Global, repo: &Place, path: &str) -> Result<Place, Trouble>
     requires { IsTrue (is_path path.now) }
     ensures { IsPlaced (repo.now ++ pieces path.now) result }
 {

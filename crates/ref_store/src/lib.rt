@@ -6,6 +6,7 @@ mod forms;
 mod heads;
 mod laws;
 mod layout;
+mod listing;
 mod making;
 mod names;
 mod reading;
@@ -15,6 +16,7 @@ mod setting;
 
 pub use heads::Head;
 pub use laws::{reads_agree, resolves_once, set_head_sets, set_tip_keeps, set_tip_sets};
+pub use listing::branches;
 pub use making::make_branch;
 pub use names::is_branch;
 pub use reading::{read_head, tip};

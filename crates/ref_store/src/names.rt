@@ -29,8 +29,8 @@ fn is_component(part: &[u8]) -> bool
     !part.ends_with(b".lock")
 }
 
-// Each part between slashes is one of a branch's name.
-fn has_components(name: &[u8]) -> bool
+/// Whether each part between slashes is one of a branch's name.
+pub(crate) fn has_components(name: &[u8]) -> bool
     ensures { result ≡ list_all is_component (pieces name.now) }
 {
     name.split(|byte| *byte == b'/')

@@ -1,4 +1,4 @@
-// Branches that are made.
+// Branches that are made, and those that are listed.
 use super::*;
 
 // Makes a branch at the blob's id; else why not.
@@ -68,4 +68,75 @@ fn a_branch_is_in_the_way(rt: HostRuntime) {
     let trouble = make(&rt, alloc, &mut files, "a/b").expect(&rt, "a refusal");
     let place = blocked(trouble).expect(&rt, "a place in the way");
     assert_eq!(&rt; place.as_str(), "/r/.dlrepo/refs/heads/a/b");
+}
+
+fn lists(rt: &impl Abort, alloc: Global, files: &mut MemFiles, expected: &[&str]) {
+    let repo = place(rt, alloc, REPO);
+    let names = branches(alloc, files, &repo).expect(rt, "names");
+    assert_eq!(rt; names.len(), expected.len());
+    for (name, want) in names.iter().zip(expected) {
+        assert_eq!(rt; name.as_str(), *want);
+    }
+}
+
+// Files of HEAD's text at these places.
+fn files_at(rt: &impl Abort, alloc: Global, places: &[&str]) -> MemFiles {
+    let mut list = Vec::new(alloc);
+    for text in places {
+        let pushed = list.push((place(rt, alloc, text), bytes(rt, alloc, HELLO)));
+        assert!(rt; pushed.is_ok());
+    }
+    MemFiles::from_list(alloc, list).expect(rt, "files")
+}
+
+#[test]
+fn a_made_branch_is_listed(rt: HostRuntime) {
+    let alloc = rt.alloc();
+    let mut files = files_with(&rt, alloc, ON_MAIN, HELLO);
+    lists(&rt, alloc, &mut files, &["main"]);
+    assert!(&rt; make(&rt, alloc, &mut files, "side").is_none());
+    lists(&rt, alloc, &mut files, &["main", "side"]);
+}
+
+#[test]
+fn no_branches_are_listed(rt: HostRuntime) {
+    let alloc = rt.alloc();
+    let mut files = files_with(&rt, alloc, ON_MAIN, "");
+    lists(&rt, alloc, &mut files, &[]);
+    let mut files = files_at(&rt, alloc, &["/r/.dlrepo/refs/heads"]);
+    lists(&rt, alloc, &mut files, &[]);
+}
+
+#[test]
+fn branches_ascend_by_whole_names(rt: HostRuntime) {
+    let alloc = rt.alloc();
+    let mut files = files_at(
+        &rt,
+        alloc,
+        &[
+            "/r/.dlrepo/refs/heads/a/d/e",
+            "/r/.dlrepo/refs/heads/a/c",
+            "/r/.dlrepo/refs/heads/a.b",
+            "/r/.dlrepo/refs/heads/a0",
+        ],
+    );
+    lists(&rt, alloc, &mut files, &["a.b", "a/c", "a/d/e", "a0"]);
+}
+
+#[test]
+fn other_names_are_passed_over(rt: HostRuntime) {
+    let alloc = rt.alloc();
+    let mut files = files_at(
+        &rt,
+        alloc,
+        &[
+            "/r/.dlrepo/refs/heads/main",
+            "/r/.dlrepo/refs/heads/x.lock",
+            "/r/.dlrepo/refs/heads/.x/main",
+            "/r/.dlrepo/refs/heads/HEAD",
+            "/r/.dlrepo/refs/tags/v1",
+            "/r/.dlrepo/HEAD",
+        ],
+    );
+    lists(&rt, alloc, &mut files, &["main"]);
 }
