@@ -7,7 +7,7 @@ use Rattle.acts.specs.All.{Act, Ending, EndsRefused, Gives, Moments, Reaches, st
 use Rattle.dataset.specs.All.{Sound}
 use Rattle.recursive_save.specs.All.{CreateKeepsSound, SaveKeepsSound, SaveIsComplete, SaveIsOne}
 use Rattle.recursive_save.specs.All.{SaveKeeps}
-use Rattle.history.specs.All.{LogIsOne}
+use Rattle.history.specs.All.{LogIsComplete, LogIsOne}
 use Rattle.dl_words.specs.declared.words.Word.{Word}
 use Rattle.dl_words.specs.declared.words.Words.{Words}
 use Rattle.dl_words.specs.declared.words.Words.TheVariants as words
@@ -17,7 +17,7 @@ use Rattle.datalad_cli.specs.Ends.{AtEachMoment, KeepsSound}
 use Rattle.datalad_cli.specs.Help.{help_text, version_text}
 use Rattle.datalad_cli.specs.Words.{leads, message_by, revision_by}
 use Rattle.datalad_cli.proofs.Kept.{create_leaves, nothing_left, save_leaves}
-use Rattle.datalad_cli.proofs.Logging.{log_has_one, log_still}
+use Rattle.datalad_cli.proofs.Logging.{log_has_one, log_refused, log_still}
 use Rattle.datalad_cli.proofs.Roots.{leads_clear}
 use Rattle.datalad_cli.proofs.Soundly.{create_sound, save_sound, save_refused, save_is_one, still_sound}
 
@@ -36,6 +36,7 @@ pub record CommandLaws : Type 0 where
   pub complete : SaveIsComplete
   pub single : SaveIsOne
   pub logged : LogIsOne
+  pub answers : LogIsComplete
 
 module _ (laws : CommandLaws) (cwd : Names) (moment : ℕ) (dated : moment < 2 ^ 64) (fresh : List ℕ) (old new : Drive) where
   log_follows : (word : List ℕ) → Follows (Log cwd word) old new
@@ -47,7 +48,7 @@ module _ (laws : CommandLaws) (cwd : Names) (moment : ℕ) (dated : moment < 2 ^
     sound = λ act is can sound settled.
         let none = log_still cwd word (present old) act is in
         still_sound none.0 act old new none.1 sound settled;
-    refused = λ act fault is ends may sound. may;
+    refused = λ act fault is ends may sound. log_refused laws.answers cwd word (present old) fault (Reaches act old new) act is ends sound;
     one = log_has_one laws.logged cwd word (present old);
   }
 

@@ -1,19 +1,21 @@
 -- A log: it reads, and does nothing.
-use Rattle.std.proofs.Common.{◌≡◌, inl, inr, Bool, IsTrue, ℕ, List, Option, Some, None, Result, Ok, Err, refl, sym, ◌∙◌, ap, subst}
+use Rattle.std.proofs.Common.{◌≡◌, ◌⊎◌, inl, inr, Bool, IsTrue, ℕ, List, Option, Some, None, Result, Ok, Err, refl, sym, ◌∙◌, ap, subst}
 use Rattle.places.specs.All.{Names, Ground, IsAtOrAbove}
 use Rattle.file_store.specs.All.{Drive, present}
 use Rattle.faults.specs.declared.lines.Line.{Line}
 use Rattle.faults.specs.declared.faults.Fault.{Fault}
 use Rattle.faults.specs.declared.faults.Fault.TheVariants.{NotADataset}
 use Rattle.faults.specs.declared.faults.Trouble.{Trouble}
-use Rattle.acts.specs.All.{Act, Ending, Gives, Reads, Refuses, still}
+use Rattle.acts.specs.All.{Act, Ending, EndsRefused, Gives, Reads, Refuses, still}
 use Rattle.acts.proofs.As.{as_unread}
 use Rattle.repository.specs.All.{repo_of}
-use Rattle.history.specs.All.{IsLog, IsNoLog, LogEnds, LogIsOne, MayLog}
+use Rattle.dataset.specs.All.{Sound}
+use Rattle.history.specs.All.{IsLog, IsNoLog, IsSoundNoLog, LogEnds, LogIsComplete, LogIsOne, MayLog}
 use Rattle.datalad_cli.specs.Commands.{CarriesOut, Log, HasOneAct, IsActIn, IsActOf, IsLogAct}
 use Rattle.datalad_cli.specs.Commands.{ending_by}
 use Rattle.datalad_cli.specs.Finding.{root_at}
 use Rattle.datalad_cli.proofs.Acting.{as_gives}
+use Rattle.datalad_cli.proofs.Nearest.{head_stands}
 
 -- whatever a log comes to, its act does nothing
 log_ending : (cwd : Names) (word : List ℕ) (g : Ground) (o : Option Names) (act : Act (List ℕ)) → IsActIn cwd (IsLogAct word g) o act → (e : Ending (List ℕ)) × (act ≡ still e)
@@ -31,6 +33,24 @@ one_at single cwd word g (Some root) one two is other =
 
 pub log_has_one : LogIsOne → (cwd : Names) (word : List ℕ) (g : Ground) → HasOneAct (Log cwd word) g
 log_has_one single cwd word g one two is other = one_at single cwd word g (root_at cwd g) one two is other
+
+-- ITS REFUSALS on a sound ground
+ending_refused : (repo : Names) (word : List ℕ) (g : Ground) (end : Result (List ℕ) Fault) (fault : Fault) (X : Type 0) → LogEnds repo word g end → EndsRefused (ending_by end) fault X → IsNoLog repo word g fault
+ending_refused repo word g (Ok text) fault X ends h = absurd h
+ending_refused repo word g (Err own) fault X ends h = subst (λ (f : Fault). IsNoLog repo word g f) h.0 ends
+
+module _ (complete : LogIsComplete) (cwd : Names) (word : List ℕ) (g : Ground) (fault : Fault) (X : Type 0) where
+  refused_at : (o : Option Names) (act : Act (List ℕ)) → root_at cwd g ≡ o → IsActIn cwd (IsLogAct word g) o act → EndsRefused act.ending fault X → Sound g
+      → (fault ≡ NotADataset cwd) ⊎ IsSoundNoLog word fault
+  refused_at None act found is ends sound =
+      let own = subst (λ (a : Act (List ℕ)). EndsRefused a.ending fault X) is ends in
+      inl (sym own.0)
+  refused_at (Some root) act found is ends sound =
+      let own = subst (λ (a : Act (List ℕ)). EndsRefused a.ending fault X) is.2 ends in
+      inr (complete root word g fault sound (head_stands g cwd root found) (ending_refused (repo_of root) word g is.0 fault X is.1 own))
+
+  pub log_refused : (act : Act (List ℕ)) → IsActIn cwd (IsLogAct word g) (root_at cwd g) act → EndsRefused act.ending fault X → Sound g → (fault ≡ NotADataset cwd) ⊎ IsSoundNoLog word fault
+  log_refused act is ends sound = refused_at (root_at cwd g) act refl is ends sound
 
 -- THE LOG at the root that was found
 module _ (cwd : Names) (word : List ℕ) (root : Names) (at : IsAtOrAbove root cwd) (tells : Bool) (l : List Line) (d0 d1 : Drive)

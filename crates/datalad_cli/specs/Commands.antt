@@ -17,7 +17,7 @@ use Rattle.recursive_save.specs.All.{new_dataset, new_parts, MayCreate, created_
 use Rattle.recursive_save.specs.All.{CreateRemains, IsSave, MaySave, SaveRemains, AreSaveLines}
 use Rattle.recursive_save.specs.All.{dataset_line, IsSoundRefusal}
 use Rattle.recursive_save.specs.declared.wishes.SaveWish.{SaveWish}
-use Rattle.history.specs.All.{IsLogText, LogEnds, MayLog}
+use Rattle.history.specs.All.{IsLogText, IsSoundNoLog, LogEnds, MayLog}
 use Rattle.dl_words.specs.All.{AskFor, EndsAt, is_built}
 use Rattle.dl_words.specs.declared.words.Words.{Words}
 use Rattle.dl_words.specs.declared.words.Words.TheVariants as words
@@ -176,7 +176,7 @@ abbrev pub IsSoundFault : Command → Fault → Type 0
 IsSoundFault (Create dir at moment fresh) fault =
     MayAnswer true (Create dir at moment fresh) fault
 IsSoundFault (Save cwd message moment) fault = (fault ≡ NotADataset cwd) ⊎ IsSoundRefusal fault
-IsSoundFault (Log cwd word) fault = MayAnswer true (Log cwd word) fault
+IsSoundFault (Log cwd word) fault = (fault ≡ NotADataset cwd) ⊎ IsSoundNoLog word fault
 IsSoundFault Help fault = ⊥
 IsSoundFault Version fault = ⊥
 

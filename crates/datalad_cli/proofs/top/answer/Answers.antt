@@ -31,6 +31,7 @@ returns g c = λ words ask.
       complete = c.laws.ensures.complete;
       single = c.laws.ensures.single;
       logged = c.laws.ensures.logged;
+      answers = c.laws.ensures.answers;
     } in
     let printed : ReportEnds t.heard lines c.act-outcome.result old.tapes new.tapes c.report.result =
     subst (λ (ls : List Line). ReportEnds t.heard ls c.act-outcome.result old.tapes new.tapes c.report.result) c.as_slice.ensures.value c.report.ensures.ends in
