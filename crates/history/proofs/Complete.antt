@@ -60,6 +60,11 @@ same_id one two e = cc e
 same_fault : (one two : Fault) → Fails one ≡ Fails two → one ≡ two
 same_fault one two e = cc e
 
+same_next : (start next : List ℕ) → Some start ≡ Some next → next ≡ start
+same_next start next e =
+    let same : start ≡ next = cc e in
+    sym same
+
 leads_kind : (kind : ObjKind) (id start : List ℕ) → (if is_kind kind CommitKind then Leads id else Nowhere) ≡ Leads start → (kind ≡ CommitKind) × (id ≡ start)
 leads_kind BlobKind id start e = absurd (cc e)
 leads_kind TreeKind id start e = absurd (cc e)
@@ -302,11 +307,7 @@ module _ (root : Names) (g : Ground) (at : IsSoundAt root g) (word : List ℕ) w
   way_fails : (start next : List ℕ) (way : List Passed) (fault : Fault) → ((other : Fault) → IsCommitFault repo start g other → IsSoundNoLog word other)
       → GoAlong (Some start) way (Some next) → AreHeld repo g way → IsCommitFault repo next g fault → IsSoundNoLog word fault
   way_fails start next [] fault first e held fails =
-      let same : next ≡ start = same_next e in
-      first fault (subst (λ (i : List ℕ). IsCommitFault repo i g fault) same fails)
-    where
-      same_next : Some start ≡ Some next → next ≡ start
-      same_next k = let back : start ≡ next = cc k in sym back
+      first fault (subst (λ (i : List ℕ). IsCommitFault repo i g fault) (same_next start next e) fails)
   way_fails start next (c ∷ way) fault first h held fails =
       limit fault (reads.commits next fault
       (way_whole (first_parent c.fields) way next (λ p e. parent_whole c.fields.parents p (at.objects.parents c.id c.fields held.0.commit) e) h.1 held.1) fails)

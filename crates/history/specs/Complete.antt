@@ -19,10 +19,10 @@ pub record IsByDigits (word id : List ℕ) : Type 0 where
   pub hex : is_hex 4 40 base ≡ true
   pub begins : begins_with (lowered base) id ≡ true
 
--- The faults for which the log of a revision word may be refused in a sound dataset: the word, which
--- isn't HEAD alone, leads to no commit; its digits begin the ids of two commits; more commits are
--- asked for than a walk may pass; a limit of sizes is passed; or its digits give an object that is
--- called a commit and has no commit's form, which the program never makes.
+-- The faults for which the log of a revision word may be refused in a sound dataset: the word,
+-- which isn't HEAD alone, leads to no commit; its digits begin the ids of two commits; more commits
+-- are asked for than a walk may pass; a limit of sizes is passed; or its digits give an object that
+-- is called a commit and has no commit's form, which the program never makes.
 abbrev pub IsSoundNoLog : List ℕ → Fault → Type 0
 IsSoundNoLog word (NoSuchRevision other) = word ≡ codes "HEAD" → ⊥
 IsSoundNoLog word (Ambiguous other first second) = IsByDigits word first × IsByDigits word second
@@ -31,9 +31,9 @@ IsSoundNoLog word (TooLarge path size) = Unit {0}
 IsSoundNoLog word (BadCommit id at) = IsByDigits word id
 IsSoundNoLog word fault = ⊥
 
--- A log of a sound dataset is refused for nothing that the program itself has left there: HEAD leads
--- to a commit, as each branch does, and no commit on a way from there is missing, damaged or out of
--- form.
+-- A log of a sound dataset is refused for nothing that the program itself has left there: HEAD
+-- leads to a commit, as each branch does, and no commit on a way from there is missing, damaged or
+-- out of form.
 abbrev pub LogIsComplete : Type 0
 LogIsComplete =
     (root : Names) (word : List ℕ) (g : Ground) (fault : Fault) → Sound g → IsDataset root g
