@@ -65,6 +65,9 @@ same_next start next e =
     let same : start ≡ next = cc e in
     sym same
 
+abbrev of_kind : List ℕ → ObjKind → Option Object
+of_kind body kind = Some (record { kind = kind; body = body })
+
 leads_kind : (kind : ObjKind) (id start : List ℕ) → (if is_kind kind CommitKind then Leads id else Nowhere) ≡ Leads start → (kind ≡ CommitKind) × (id ≡ start)
 leads_kind BlobKind id start e = absurd (cc e)
 leads_kind TreeKind id start e = absurd (cc e)
@@ -110,7 +113,7 @@ module _ (root : Names) (g : Ground) (at : IsSoundAt root g) (word : List ℕ) w
       by None None is k = absurd (cc k)
       by None (Some object) is k =
           let both = leads_kind object.kind id start k in
-          (both.1, (object.body, is ∙ ap (λ (kind : ObjKind). Some (record { kind = kind; body = object.body })) both.0))
+          (both.1, (object.body, is ∙ ap (of_kind object.body) both.0))
 
   held_fails : (id : List ℕ) (fault : Fault) → IsId id → held_base repo id g ≡ Fails fault → IsSoundNoLog word fault
   held_fails id fault own e = by (get_fault repo id g) (held_at g repo id) refl e
@@ -216,7 +219,7 @@ module _ (root : Names) (g : Ground) (at : IsSoundAt root g) (word : List ℕ) w
             subst (λ (i : List ℕ). IsWhole repo i g) (sym same) tip.2
 
     digits_lead : (start : List ℕ) (hex : Bool) → is_hex 4 39 base ≡ hex → IsDigitsBase repo word base g hex (Leads start) → IsLed start
-    digits_lead start true is (inl (fault, large, e)) = absurd (cc e)
+    digits_lead start true is (inl (fault, large_place, e)) = absurd (cc e)
     digits_lead start true is (inr (ids, own, are, e)) =
         let found = only_leads (lowered base) None ids start tt are.form.begin (sym e) in
         inr (by_digits start (widened 4 39 base (omega arith) (omega arith) is) found.begins, found.held)
