@@ -6,9 +6,9 @@ use Rattle.faults.specs.declared.faults.Fault.{Fault}
 use Rattle.acts.specs.All.{Act, Ending, EndsRefused, Gives, Moments, Reaches, still}
 use Rattle.dataset.specs.All.{Sound}
 use Rattle.recursive_save.specs.All.{CreateKeepsSound, SaveKeepsSound, SaveIsComplete, SaveIsOne}
-use Rattle.recursive_save.specs.All.{SaveKeeps, StatusEnds, StatusIsComplete, StatusIsOne}
+use Rattle.recursive_save.specs.All.{IsSoundRefusal, SaveKeeps, StatusEnds, StatusIsComplete, StatusIsOne}
 use Rattle.repository.specs.All.{repo_of}
-use Rattle.history.specs.All.{LogIsOne}
+use Rattle.history.specs.All.{IsSoundNoLog, LogIsComplete, LogIsOne}
 use Rattle.dl_words.specs.declared.words.Word.{Word}
 use Rattle.dl_words.specs.declared.words.Words.{Words}
 use Rattle.dl_words.specs.declared.words.Words.TheVariants as words
@@ -18,9 +18,9 @@ use Rattle.datalad_cli.specs.Ends.{AtEachMoment, KeepsSound}
 use Rattle.datalad_cli.specs.Help.{help_text, version_text}
 use Rattle.datalad_cli.specs.Words.{leads, message_by, revision_by}
 use Rattle.datalad_cli.proofs.Kept.{create_leaves, nothing_left, save_leaves}
-use Rattle.datalad_cli.proofs.ReadActs.{read_has_one, read_still}
+use Rattle.datalad_cli.proofs.ReadActs.{read_has_one, read_refused, read_still}
 use Rattle.datalad_cli.proofs.Roots.{leads_clear}
-use Rattle.datalad_cli.proofs.Soundly.{create_sound, save_sound, save_refused, save_is_one, status_refused, still_sound}
+use Rattle.datalad_cli.proofs.Soundly.{create_sound, save_sound, save_refused, save_is_one, still_sound}
 
 -- what each act of a command leaves, keeps and refuses, and that there is one at most
 pub record Follows (command : Command) (old new : Drive) : Type 0 where
@@ -39,6 +39,7 @@ pub record CommandLaws : Type 0 where
   pub status : StatusIsOne
   pub seen : StatusIsComplete
   pub logged : LogIsOne
+  pub answers : LogIsComplete
 
 module _ (laws : CommandLaws) (cwd : Names) (moment : ℕ) (dated : moment < 2 ^ 64) (fresh : List ℕ) (old new : Drive) where
   log_follows : (word : List ℕ) → Follows (Log cwd word) old new
@@ -50,7 +51,7 @@ module _ (laws : CommandLaws) (cwd : Names) (moment : ℕ) (dated : moment < 2 ^
     sound = λ act is can sound settled.
         let none = read_still (LogComes word) cwd (present old) act is in
         still_sound none.0 act old new none.1 sound settled;
-    refused = λ act fault is ends may sound. may;
+    refused = λ act fault is ends may sound. read_refused (LogComes word) (IsSoundNoLog word) (λ root g own. laws.answers root word g own) cwd (present old) fault (Reaches act old new) act is ends sound;
     one = λ one two is other. read_has_one (LogComes word) (λ root. laws.logged (repo_of root) word) cwd (present old) one two is other;
   }
 
@@ -63,7 +64,7 @@ module _ (laws : CommandLaws) (cwd : Names) (moment : ℕ) (dated : moment < 2 ^
     sound = λ act is can sound settled.
         let none = read_still StatusEnds cwd (present old) act is in
         still_sound none.0 act old new none.1 sound settled;
-    refused = λ act fault is ends may sound. status_refused laws.seen cwd (present old) fault (Reaches act old new) act is ends sound;
+    refused = λ act fault is ends may sound. read_refused StatusEnds IsSoundRefusal laws.seen cwd (present old) fault (Reaches act old new) act is ends sound;
     one = λ one two is other. read_has_one StatusEnds laws.status cwd (present old) one two is other;
   }
 

@@ -1,16 +1,18 @@
 -- A command that only reads a dataset: its act does nothing.
-use Rattle.std.proofs.Common.{◌≡◌, inl, inr, Bool, IsTrue, ℕ, List, Option, Some, None, Result, Ok, Err, refl, sym, ◌∙◌, ap, subst}
+use Rattle.std.proofs.Common.{◌≡◌, ◌⊎◌, inl, inr, Bool, IsTrue, ℕ, List, Option, Some, None, Result, Ok, Err, refl, sym, ◌∙◌, ap, subst}
 use Rattle.places.specs.All.{Names, Ground, IsAtOrAbove}
 use Rattle.file_store.specs.All.{Drive, present}
 use Rattle.faults.specs.declared.lines.Line.{Line}
 use Rattle.faults.specs.declared.faults.Fault.{Fault}
 use Rattle.faults.specs.declared.faults.Fault.TheVariants.{NotADataset}
 use Rattle.faults.specs.declared.faults.Trouble.{Trouble}
-use Rattle.acts.specs.All.{Act, ActsAs, Ending, Reads, Refuses, still}
+use Rattle.acts.specs.All.{Act, ActsAs, Ending, EndsRefused, Reads, Refuses, still}
 use Rattle.acts.proofs.As.{as_unread}
 use Rattle.datalad_cli.specs.Commands.{Comes, IsActIn, IsReadAct, MayIn, ending_by}
 use Rattle.datalad_cli.specs.Finding.{root_at}
 use Rattle.datalad_cli.proofs.Acting.{as_gives}
+use Rattle.datalad_cli.proofs.Nearest.{head_stands}
+use Rattle.dataset.specs.All.{IsDataset, Sound}
 
 -- whatever a reading comes to, its act does nothing
 still_in : (ComesTo : Comes) (cwd : Names) (g : Ground) (o : Option Names) (act : Act (List ℕ)) → IsActIn cwd (IsReadAct ComesTo g) o act → (e : Ending (List ℕ)) × (act ≡ still e)
@@ -31,6 +33,25 @@ one_in ComesTo single cwd g (Some root) one two is other =
 
 pub read_has_one : (ComesTo : Comes) → IsOnce ComesTo → (cwd : Names) (g : Ground) (one two : Act (List ℕ)) → IsActIn cwd (IsReadAct ComesTo g) (root_at cwd g) one → IsActIn cwd (IsReadAct ComesTo g) (root_at cwd g) two → one ≡ two
 read_has_one ComesTo single cwd g one two is other = one_in ComesTo single cwd g (root_at cwd g) one two is other
+
+-- ITS REFUSALS on a sound ground
+ending_refused : (ComesTo : Comes) (root : Names) (g : Ground) (end : Result (List ℕ) Fault) (fault : Fault) (X : Type 0) → ComesTo root g end → EndsRefused (ending_by end) fault X → ComesTo root g (Err fault)
+ending_refused ComesTo root g (Ok text) fault X ends h = absurd h
+ending_refused ComesTo root g (Err own) fault X ends h = subst (λ (f : Fault). ComesTo root g (Err f)) h.0 ends
+
+module _ (ComesTo : Comes) (IsSound : Fault → Type 0) (so : (root : Names) (g : Ground) (fault : Fault) → Sound g → IsDataset root g → ComesTo root g (Err fault) → IsSound fault)
+    (cwd : Names) (g : Ground) (fault : Fault) (X : Type 0) where
+  refused_at : (o : Option Names) (act : Act (List ℕ)) → root_at cwd g ≡ o → IsActIn cwd (IsReadAct ComesTo g) o act → EndsRefused act.ending fault X → Sound g
+      → (fault ≡ NotADataset cwd) ⊎ IsSound fault
+  refused_at None act found is ends sound =
+      let own = subst (λ (a : Act (List ℕ)). EndsRefused a.ending fault X) is ends in
+      inl (sym own.0)
+  refused_at (Some root) act found is ends sound =
+      let own = subst (λ (a : Act (List ℕ)). EndsRefused a.ending fault X) is.2 ends in
+      inr (so root g fault sound (head_stands g cwd root found) (ending_refused ComesTo root g is.0 fault X is.1 own))
+
+  pub read_refused : (act : Act (List ℕ)) → IsActIn cwd (IsReadAct ComesTo g) (root_at cwd g) act → EndsRefused act.ending fault X → Sound g → (fault ≡ NotADataset cwd) ⊎ IsSound fault
+  read_refused act is ends sound = refused_at (root_at cwd g) act refl is ends sound
 
 -- THE READING at the root that was found
 module _ (ComesTo : Comes) (May : Names → Fault → Type 0) (cwd root : Names) (at : IsAtOrAbove root cwd) (tells : Bool) (l : List Line) (d0 d1 : Drive)

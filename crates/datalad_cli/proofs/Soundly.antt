@@ -1,5 +1,5 @@
 -- A command keeps a sound ground sound, and is refused there for nothing that the program has left; it has one act.
-use Rattle.std.proofs.Common.{◌≡◌, ◌⊎◌, inl, inr, ℕ, ◌<◌, ◌^◌, false, List, [], Option, Some, None, Result, Ok, Err, refl, sym, ap, ◌∙◌, subst}
+use Rattle.std.proofs.Common.{◌≡◌, ◌⊎◌, inl, inr, ℕ, ◌<◌, ◌^◌, false, List, [], Option, Some, None, refl, sym, ap, ◌∙◌, subst}
 use Rattle.places.specs.All.{Names, Ground, has_name}
 use Rattle.faults.specs.declared.faults.Fault.{Fault}
 use Rattle.faults.specs.declared.faults.Fault.TheVariants.{BadPath, NotADataset}
@@ -10,9 +10,8 @@ use Rattle.acts.specs.All.{Act, Ending, Gives, Refuses, Breaks, EndsRefused, ref
 use Rattle.dataset.specs.All.{IsSettled, Sound, StaysSound}
 use Rattle.recursive_save.specs.All.{CreateKeepsSound, SaveKeepsSound, SaveIsComplete, SaveIsOne}
 use Rattle.recursive_save.specs.All.{new_dataset, create_step, IsSoundEnding, IsSoundRefusal}
-use Rattle.recursive_save.specs.All.{StatusEnds, StatusIsComplete}
 use Rattle.datalad_cli.specs.Commands.{Create, Save, HasOneAct, IsActIn, IsSaveAct, creates, ending_with}
-use Rattle.datalad_cli.specs.Commands.{IsReadAct, ending_by, wish_of, with_text}
+use Rattle.datalad_cli.specs.Commands.{wish_of, with_text}
 use Rattle.datalad_cli.specs.Ends.{KeepsSound}
 use Rattle.datalad_cli.specs.Finding.{root_at}
 use Rattle.datalad_cli.proofs.Cuts.{cut_stays, step_stays, still_stays}
@@ -67,26 +66,6 @@ module _ (complete : SaveIsComplete) (cwd : Names) (message : List ℕ) (moment 
 
   pub save_refused : (act : Act (List ℕ)) → IsActIn cwd (IsSaveAct (wish_of message moment) g) (root_at cwd g) act → EndsRefused act.ending fault X → Sound g → (fault ≡ NotADataset cwd) ⊎ IsSoundRefusal fault
   save_refused act is ends sound = refused_at (root_at cwd g) act refl is ends sound
-
--- THE REFUSALS OF A STATUS
-sound_end : (end : Result (List ℕ) Fault) (fault : Fault) (X : Type 0) → ((own : Fault) → end ≡ Err own → IsSoundRefusal own) → EndsRefused (ending_by end) fault X → IsSoundRefusal fault
-sound_end (Ok text) fault X so h = absurd h
-sound_end (Err own) fault X so h = subst IsSoundRefusal h.0 (so own refl)
-
-module _ (complete : StatusIsComplete) (cwd : Names) (g : Ground) (fault : Fault) (X : Type 0) where
-  unread_at : (root : Names) (end : Result (List ℕ) Fault) → root_at cwd g ≡ Some root → StatusEnds root g end → Sound g → (own : Fault) → end ≡ Err own → IsSoundRefusal own
-  unread_at root end found is sound own e = complete root g own sound (head_stands g cwd root found) (subst (λ (r : Result (List ℕ) Fault). StatusEnds root g r) e is)
-
-  seen_at : (o : Option Names) (act : Act (List ℕ)) → root_at cwd g ≡ o → IsActIn cwd (IsReadAct StatusEnds g) o act → EndsRefused act.ending fault X → Sound g → (fault ≡ NotADataset cwd) ⊎ IsSoundRefusal fault
-  seen_at None act found is ends sound =
-      let own = subst (λ (a : Act (List ℕ)). EndsRefused a.ending fault X) is ends in
-      inl (sym own.0)
-  seen_at (Some root) act found is ends sound =
-      let own = subst (λ (a : Act (List ℕ)). EndsRefused a.ending fault X) is.2 ends in
-      inr (sound_end is.0 fault X (unread_at root is.0 found is.1 sound) own)
-
-  pub status_refused : (act : Act (List ℕ)) → IsActIn cwd (IsReadAct StatusEnds g) (root_at cwd g) act → EndsRefused act.ending fault X → Sound g → (fault ≡ NotADataset cwd) ⊎ IsSoundRefusal fault
-  status_refused act is ends sound = seen_at (root_at cwd g) act refl is ends sound
 
 -- ONE ACT
 module _ (single : SaveIsOne) (cwd : Names) (message : List ℕ) (moment : ℕ) (g : Ground) where

@@ -18,7 +18,7 @@ use Rattle.recursive_save.specs.All.{CreateRemains, IsSave, MaySave, SaveRemains
 use Rattle.recursive_save.specs.All.{dataset_line, IsSoundRefusal, IsStatusText, MayView}
 use Rattle.recursive_save.specs.All.{StatusEnds}
 use Rattle.recursive_save.specs.declared.wishes.SaveWish.{SaveWish}
-use Rattle.history.specs.All.{IsLogText, LogEnds, MayLog}
+use Rattle.history.specs.All.{IsLogText, IsSoundNoLog, LogEnds, MayLog}
 use Rattle.dl_words.specs.All.{AskFor, EndsAt, is_built}
 use Rattle.dl_words.specs.declared.words.Words.{Words}
 use Rattle.dl_words.specs.declared.words.Words.TheVariants as words
@@ -193,7 +193,7 @@ IsSoundFault (Create dir at moment fresh) fault =
     MayAnswer true (Create dir at moment fresh) fault
 IsSoundFault (Save cwd message moment) fault = (fault ≡ NotADataset cwd) ⊎ IsSoundRefusal fault
 IsSoundFault (Status cwd) fault = (fault ≡ NotADataset cwd) ⊎ IsSoundRefusal fault
-IsSoundFault (Log cwd word) fault = MayAnswer true (Log cwd word) fault
+IsSoundFault (Log cwd word) fault = (fault ≡ NotADataset cwd) ⊎ IsSoundNoLog word fault
 IsSoundFault Help fault = ⊥
 IsSoundFault Version fault = ⊥
 

@@ -3,7 +3,7 @@ ghost use Rattle.std.specs.Prelude.{◌≡◌, ℕ, List, [], map, string_bytes}
 ghost use Rattle.acts.specs.All.{Acts};
 ghost use Rattle.recursive_save.specs.All.{CreateKeepsSound, SaveIsComplete, SaveIsOne, SaveKeeps, SaveKeepsSound};
 ghost use Rattle.recursive_save.specs.All.{StatusIsComplete, StatusIsOne};
-ghost use Rattle.history.specs.All.{LogIsOne};
+ghost use Rattle.history.specs.All.{LogIsComplete, LogIsOne};
 ghost use Rattle.dl_words.specs.All.{AskFor, AskOnce, EndsOnce, HaveMeaning};
 ghost use Rattle.faults.specs.declared.faults.Fault.TheVariants.{BadPath};
 ghost use Rattle.datalad_cli.specs.Answer.{call_of};
@@ -21,7 +21,7 @@ use crate::words::{message_by, revision_by, root_of};
 use dl_words::{Word, Words, WordsErr, ends_once, have_meaning, is_built, one_meaning, read_words};
 use faults::{Fault, Line, Trouble};
 use file_store::{Bytes, Files, Place, Sink};
-use history::{log, log_is_one};
+use history::{log, log_is_complete, log_is_one};
 use recursive_save::{
     SaveWish, create, create_keeps_sound, save, save_is_complete, save_is_one, save_keeps_sound,
     save_remains, status, status_is_complete, status_is_one,
@@ -162,6 +162,7 @@ fn laws(alloc: Global)
     ensures status { StatusIsOne }
     ensures seen { StatusIsComplete }
     ensures logged { LogIsOne }
+    ensures answers { LogIsComplete }
     ensures asked { AskOnce }
     ensures ended { EndsOnce }
     ensures meant { HaveMeaning }
@@ -174,6 +175,7 @@ fn laws(alloc: Global)
     status_is_one();
     status_is_complete();
     log_is_one();
+    log_is_complete();
     one_meaning();
     ends_once();
     have_meaning();

@@ -6,6 +6,7 @@ pub mod Leading
 pub mod Moments
 pub mod Parents
 pub mod Putting
+pub mod Readable
 pub mod Refs
 pub mod Rows
 pub mod Saving

@@ -3,6 +3,7 @@ pub mod Births
 pub mod Laws
 pub mod Leads
 pub mod Moments
+pub mod Readable
 pub mod Refs
 pub mod Rounds
 pub mod Saves

@@ -1,3 +1,4 @@
+pub mod Complete
 pub mod Going
 pub mod Once
 pub mod Titles

@@ -1,4 +1,5 @@
 // What follows of a log.
+ghost use Rattle.history.specs.Complete.{LogIsComplete};
 ghost use Rattle.history.specs.Logs.{LogIsOne};
 
 use git_objects::texts_have_one_reading;
@@ -11,3 +12,9 @@ pub fn log_is_one()
     resolves_once();
     texts_have_one_reading();
 }
+
+/// On a sound ground a log is refused for what the word asks for or for a limit, and for nothing that the program
+/// itself has left there.
+pub fn log_is_complete()
+    ensures { LogIsComplete }
+{}

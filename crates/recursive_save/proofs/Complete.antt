@@ -1,54 +1,40 @@
 -- A save of a sound dataset is refused for nothing that the program itself has left there.
 use Rattle.std.proofs.Common.{◌≡◌, inl, inr, ℕ, ◌+◌, Bool, true, false, cond, nat_lt, List, [], ◌∷◌, ◌++◌, length, Option, Some, None, Result, Ok, refl, sym, ap, ◌∙◌, subst}
-use Rattle.std.specs.Prelude.{bytes_eq, IsSome, is_some, nat_le, not, option_map, ◌&&◌}
+use Rattle.std.specs.Prelude.{bytes_eq, nat_le, not, option_map, ◌&&◌}
 use Rattle.std.specs.FinMap.{entries}
 use Rattle.std.proofs.lemmas.Slice.Eq.{bytes_eq-Decides}
-use Rattle.places.specs.All.{Names, text_of, joined, is_text, longest, Ground, file_at, stands}
+use Rattle.places.specs.All.{Names, text_of, joined, is_text, Ground, file_at, stands}
 use Rattle.faults.specs.declared.lines.Line.{Line}
 use Rattle.faults.specs.declared.faults.Fault.{Fault}
-use Rattle.faults.specs.declared.faults.Fault.TheVariants.{BadCommit, BadTree, Collision, Damaged}
+use Rattle.faults.specs.declared.faults.Fault.TheVariants.{Collision, Damaged, TooLarge}
 use Rattle.file_store.specs.All.{or_next, first_shut, block_of, only}
 use Rattle.file_store.specs.declared.replacing.Replacement.{Replacement}
-use Rattle.git_objects.specs.All.{Fields, IsBadAt, IsBadCommitAt, Object, is_dir, is_object_text}
+use Rattle.git_objects.specs.All.{Object, is_object_text}
 use Rattle.git_objects.specs.All.{oid, text_of_object}
-use Rattle.git_objects.specs.declared.entries.TreeEntry.{TreeEntry}
 use Rattle.git_objects.specs.declared.ids.Id.{Id}
-use Rattle.git_objects.specs.declared.objects.ObjKind.TheVariants.{Commit as CommitKind}
-use Rattle.git_objects.specs.declared.objects.ObjKind.TheVariants.{Tree as TreeKind}
-use Rattle.git_objects.proofs.Parsing.{bad_no_tree}
 use Rattle.config_text.specs.All.{PlainConfig, config_in}
 use Rattle.repository.specs.All.{item_limit}
-use Rattle.repository.specs.All.{Head as Led, branch_place, head_of, held_at, id_in, id_text}
-use Rattle.repository.specs.All.{large, object_body_limit, object_file_limit, object_limit}
-use Rattle.repository.specs.All.{object_of, object_place, repo_head, repo_limit, repo_of}
+use Rattle.repository.specs.All.{Head as Led, head_of, held_at, id_text}
+use Rattle.repository.specs.All.{large, object_limit}
+use Rattle.repository.specs.All.{object_of, repo_limit, repo_of}
 use Rattle.repository.specs.All.{settings_place, tmp_place}
-use Rattle.repository.proofs.Heading.{how_read}
 use Rattle.repository.proofs.Holds.{held_is, none_of_text}
 use Rattle.acts.specs.All.{Act, Ending, Gives, Refuses, Breaks, Step, bind, ending_of, fold}
 use Rattle.acts.specs.All.{gives, go_on, last_of, put_act, puts, says, still, unless}
-use Rattle.object_store.specs.All.{IsCommitAt, IsCommitFault, IsTreeAt, IsTreeFault, body_fault}
-use Rattle.object_store.specs.All.{early_fault, fault_in, file_fault, first_fault, found_fault}
-use Rattle.object_store.specs.All.{get_fault, kind_fault as object_fault, large_file, long_fault}
-use Rattle.object_store.specs.All.{missing, missing_fault, object_text, place_in, puts_missing}
-use Rattle.object_store.specs.All.{puts_objects, puts_some, size_fault, staging}
+use Rattle.object_store.specs.All.{early_fault, fault_in, first_fault, found_fault}
+use Rattle.object_store.specs.All.{long_fault}
+use Rattle.object_store.specs.All.{missing, object_text, place_in, puts_missing}
+use Rattle.object_store.specs.All.{puts_objects, puts_some, staging}
 use Rattle.object_store.specs.declared.objects.NewObject.{NewObject}
-use Rattle.ref_store.specs.All.{branch_id, branch_of, damaged_unless, given, head_at, head_fault}
-use Rattle.ref_store.specs.All.{head_given, lead_fault, long_place, long_repo, puts_one, set_fault}
+use Rattle.ref_store.specs.All.{given, head_at, head_fault}
+use Rattle.ref_store.specs.All.{head_given, long_repo, puts_one, set_fault}
 use Rattle.ref_store.specs.All.{sets_tip, tip_at, tip_fault}
-use Rattle.ref_store.specs.declared.heads.Head.{Head}
-use Rattle.ref_store.specs.declared.heads.Head.TheVariants.{Branch, Detached}
-use Rattle.ref_store.proofs.Leading.{same_branch}
-use Rattle.snapshot.specs.All.{Dir, Empty, Item, Sub, IsFlattenFault, IsReadFault, Stands, SubsStand}
-use Rattle.snapshot.specs.All.{dir_entry, entries_of, here, leaf_entry, long, many, root_id}
-use Rattle.snapshot.specs.Flattens.{below}
 use Rattle.snapshot.specs.declared.entries.Entry.{Entry}
 use Rattle.snapshot.specs.declared.entries.Leaf.{Leaf}
 use Rattle.snapshot.specs.declared.entries.Leaf.TheVariants.{Git, Link, Pin}
-use Rattle.snapshot.proofs.Faultless.{EachSub-parts, cut_at}
-use Rattle.snapshot.proofs.Standing.{no_leaf_is_dir, tree_same}
-use Rattle.dataset.specs.All.{IsSoundAt, IsWhole}
-use Rattle.dataset.proofs.Commits.{tree_full}
+use Rattle.dataset.specs.All.{IsLimit, IsLimitAtMost, IsSoundAt, IsWhole}
 use Rattle.dataset.proofs.Ids.{oid_is_id}
+use Rattle.dataset.proofs.Readable.{flat_read, head_read, object_held, tip_read}
 use Rattle.tree_status.specs.All.{Directory, ItemKind, Nested, Working, fault_along}
 use Rattle.tree_status.specs.All.{git_file_limit, item_fault, items, walk_fault, working}
 use Rattle.tree_status.specs.All.{kind_fault as item_kind_fault}
@@ -78,112 +64,14 @@ cond_sound : (b : Bool) (x y : Option Fault) → Soundly x → Soundly y → Sou
 cond_sound true x y h k = h
 cond_sound false x y h k = k
 
-long_sound : (place : Names) → Soundly (long_place place)
-long_sound place = cond_sound (nat_lt longest (length (text_of place))) (large place) None tt tt
+-- a limit that is passed is one
+of_limit : (fault : Fault) → IsLimit fault → IsSoundRefusal fault
+of_limit (TooLarge path size) h = tt
+of_limit fault h = absurd h
 
--- HEAD AND ITS BRANCH
-module _ (repo : Names) (g : Ground) (head : Led) (leads : head_of g repo ≡ Some head) where
-  -- the branch's file names an id
-  branch_sound : (name : List ℕ) → name ≡ name → Some name ≡ head.branch → Soundly (damaged_unless (branch_place repo name) (branch_id repo name g))
-  branch_sound name same is = elim (how_read (λ n. file_at g (branch_place repo n)) (file_at g (repo_head repo)) head leads) [
-    | inl plain ↦ absurd (cc (is ∙ plain.branch))
-    | inr on ↦
-        let one : name ≡ on.name = cc (is ∙ on.branch) in
-        let stands : file_at g (branch_place repo name) ≡ Some on.tip = ap (λ (n : List ℕ). file_at g (branch_place repo n)) one ∙ on.there in
-        subst (λ (o : Option (List ℕ)). Soundly (damaged_unless (branch_place repo name) o)) (sym (ap (given id_in) stands ∙ on.leads)) tt
-  ]
-
-  abbrev tip_by : Option Head → Option Fault
-  tip_by o = or_next (or_next (long_place (repo_head repo)) (damaged_unless (repo_head repo) o)) (lead_fault repo g o)
-
-  by_head : (o : Option Head) → option_map branch_of o ≡ Some head.branch → Soundly (tip_by o)
-  by_head None e = absurd (cc e)
-  by_head (Some (Branch name)) e =
-      let is : Some name ≡ head.branch = cc e in
-      or_sound (or_next (long_place (repo_head repo)) None) (lead_fault repo g (Some (Branch name)))
-      (or_sound (long_place (repo_head repo)) None (long_sound (repo_head repo)) tt)
-      (or_sound (long_place (branch_place repo name)) (damaged_unless (branch_place repo name) (branch_id repo name g)) (long_sound (branch_place repo name)) (branch_sound name refl is))
-  by_head (Some (Detached id)) e =
-      or_sound (or_next (long_place (repo_head repo)) None) None (or_sound (long_place (repo_head repo)) None (long_sound (repo_head repo)) tt) tt
-
-  tip_sound : Soundly (tip_fault repo g)
-  tip_sound = by_head (head_at repo g) (same_branch repo g head leads)
-
-  -- and so where HEAD is the same
-  head_sound : (h : Ground) → head_at repo h ≡ head_at repo g → Soundly (head_fault repo h)
-  head_sound h same =
-      subst (λ (o : Option Head). Soundly (or_next (long_place (repo_head repo)) (damaged_unless (repo_head repo) o))) (sym same) (by (head_at repo g) (same_branch repo g head leads))
-    where
-      by : (o : Option Head) → option_map branch_of o ≡ Some head.branch → Soundly (or_next (long_place (repo_head repo)) (damaged_unless (repo_head repo) o))
-      by None e = absurd (cc e)
-      by (Some one) e = or_sound (long_place (repo_head repo)) None (long_sound (repo_head repo)) tt
-
--- OBJECTS
-body_sound : (place : Names) (o : Object) → Soundly (body_fault place (Some o))
-body_sound place o = cond_sound (nat_lt object_body_limit (length o.body)) (large_file place (length o.body)) None tt tt
-
-module _ (repo : Names) (g : Ground) where
-  -- what is held is refused only for its size
-  get_sound : (id : List ℕ) (o : Object) → held_at g repo id ≡ Some o → Soundly (get_fault repo id g)
-  unfolding get_fault
-  get_sound id o held = cond_sound (nat_lt object_limit (length (text_of repo))) (large repo) _ tt (by (file_at g (object_place repo id)) held)
-    where
-      by : (file : Option (List ℕ)) → object_of id file ≡ Some o → Soundly (file_fault (object_place repo id) id file)
-      by None e = tt
-      by (Some text) e =
-          or_sound (size_fault (object_place repo id) (Some text)) (body_fault (object_place repo id) (object_of id (Some text)))
-          (cond_sound (nat_lt object_file_limit (length text)) (large_file (object_place repo id) (length text)) None tt tt)
-          (subst (λ (z : Option Object). Soundly (body_fault (object_place repo id) z)) (sym e) (body_sound (object_place repo id) o))
-
-  commit_sound : (id : List ℕ) (fields : Fields) (fault : Fault) → IsCommitAt repo id g fields → IsCommitFault repo id g fault → IsSoundRefusal fault
-  commit_sound id fields (BadCommit other at) commit (is, bad) =
-      let same : Some (record { kind = CommitKind; body = bad.body }) ≡ Some (record { kind = CommitKind; body = commit.body }) = sym bad.held ∙ commit.held in
-      let objects : record { kind = CommitKind; body = bad.body } ≡ record { kind = CommitKind; body = commit.body } = cc same in
-      let bodies : bad.body ≡ commit.body = ap (λ (o : Object). o.body) objects in
-      absurd ((subst (λ (z : List ℕ). IsBadCommitAt z at) bodies bad.bad).none fields commit.text)
-  commit_sound id fields fault commit fails =
-      of_soundly (object_fault repo id CommitKind g) fault (or_sound (get_fault repo id g) (missing_fault id CommitKind (held_at g repo id)) (get_sound id _ commit.held)
-      (subst (λ (z : Option Object). Soundly (missing_fault id CommitKind z)) (sym commit.held) tt)) fails
-
-  tree_sound : (id : List ℕ) (es : List TreeEntry) (fault : Fault) → IsTreeAt repo id g es → IsTreeFault repo id g fault → IsSoundRefusal fault
-  tree_sound id es (BadTree other at) tree (is, bad) =
-      let same : Some (record { kind = TreeKind; body = bad.body }) ≡ Some (record { kind = TreeKind; body = tree.body }) = sym bad.held ∙ tree.held in
-      let objects : record { kind = TreeKind; body = bad.body } ≡ record { kind = TreeKind; body = tree.body } = cc same in
-      let bodies : bad.body ≡ tree.body = ap (λ (o : Object). o.body) objects in
-      absurd (bad_no_tree tree.body at es (subst (λ (z : List ℕ). IsBadAt z at) bodies bad.bad) tree.text)
-  tree_sound id es fault tree fails =
-      of_soundly (object_fault repo id TreeKind g) fault (or_sound (get_fault repo id g) (missing_fault id TreeKind (held_at g repo id)) (get_sound id _ tree.held)
-      (subst (λ (z : Option Object). Soundly (missing_fault id TreeKind z)) (sym tree.held) tt)) fails
-
-  -- READINGS of a directory that stands
-  first_sub : (dir : Dir) (e : TreeEntry) (after : List TreeEntry) → entries_of dir ≡ e ∷ after → is_dir e.mode ≡ true → SubsStand repo g dir → (sub : Dir) × Stands repo e.id.0 g sub
-  first_sub Empty e after same is subs = absurd (cc same)
-  first_sub (Item n l m) e after same is subs =
-      let head : leaf_entry n l ≡ e = cc same in
-      absurd (no_leaf_is_dir l (ap (λ (z : TreeEntry). is_dir z.mode) head ∙ is))
-  first_sub (Sub n s m) e after same is subs =
-      let head : dir_entry n (record { 0 = root_id s }) ≡ e = cc same in
-      (s, subst (λ (z : TreeEntry). Stands repo z.id.0 g s) head (record { tree = subs.0; subs = subs.1 }))
-
-  read_sound : (count : ℕ) (path id : List ℕ) (fault : Fault) (dir : Dir) → IsReadFault repo g count path id fault → Stands repo id g dir → IsSoundRefusal fault
-  read_sound count path id fault dir (here fails) stands = tree_sound id (entries_of dir) fault stands.tree fails
-  read_sound count path id _ dir (many e at) stands = tt
-  read_sound count path id _ dir (long e reached at room large_path) stands = tt
-  read_sound count path id fault dir (below e reached at room short is fails) stands =
-      let same = tree_same repo g id (entries_of dir) (at.before ++ e ∷ at.after) stands.tree at.tree in
-      let cut = cut_at dir at.before (e ∷ at.after) same in
-      let subs = EachSub-parts (λ sub. IsTreeAt repo (root_id sub) g (entries_of sub)) cut.front cut.back (subst (SubsStand repo g) cut.joins stands.subs) in
-      let sub = first_sub cut.back e at.after cut.last is subs.1 in
-      read_sound (reached + 1) _ e.id.0 fault sub.0 fails sub.1
-
-  -- a whole commit is refused only for a limit
-  flatten_sound : (commit : List ℕ) (fault : Fault) → IsWhole repo commit g → IsFlattenFault repo commit g fault → IsSoundRefusal fault
-  flatten_sound commit fault whole (inl fails) =
-      let own = whole.each commit whole.has in
-      commit_sound commit own.fields fault own.commit fails
-  flatten_sound commit fault whole (inr (fields, there, read, fails)) =
-      let full = tree_full repo g commit fields there whole in
-      read_sound 0 [] fields.tree.0 fault full.dir fails full.stands
+limit_sound : (o : Option Fault) → IsLimitAtMost o → Soundly o
+limit_sound None h = tt
+limit_sound (Some fault) h = of_limit fault h
 
 -- WORKING FILES, and pins
 pin_sound : (list : List Entry) → Soundly (pin_fault list)
@@ -285,8 +173,8 @@ module _ (root : Names) (g : Ground) (at : IsSoundAt root g) where
   whole_at parent e = subst (λ (i : List ℕ). IsWhole repo i g) (led (head_of g repo) parent at.heads.leads e) at.heads.whole
 
   pub unread_sound : (fault : Fault) → IsUnread root g fault → IsSoundRefusal fault
-  unread_sound fault (inl tip) = of_soundly (tip_fault repo g) fault (tip_sound repo g at.heads.head at.heads.leads) tip
-  unread_sound fault (inr (parent, tip, inl fails)) = flatten_sound repo g parent fault (whole_at parent tip.1) fails
+  unread_sound fault (inl tip) = of_soundly (tip_fault repo g) fault (limit_sound (tip_fault repo g) (tip_read repo g at.heads.head at.heads.leads)) tip
+  unread_sound fault (inr (parent, tip, inl fails)) = of_limit fault (flat_read repo g parent fault (whole_at parent tip.1) fails)
   unread_sound fault (inr (parent, tip, inr (old, flat, why))) = of_soundly (view_fault root g old) fault (view_sound root g old) why
 
   plan_sound : (old : List Entry) → Soundly (plan_fault root g old)
@@ -312,10 +200,6 @@ module _ (root : Names) (g : Ground) (at : IsSoundAt root g) where
       by true e = e
       by false e = absurd (cc (sym held ∙ ap (object_of (oid x.kind x.body)) file ∙ none_of_text (oid x.kind x.body) bytes e))
 
-  some_held : (o : Option Object) → IsSome o → (one : Object) × (o ≡ Some one)
-  some_held None h = absurd (cc h)
-  some_held (Some one) h = (one, refl)
-
   first_sound : (objects : List NewObject) → Soundly (first_fault repo objects g)
   first_sound [] = tt
   first_sound (x ∷ objects) = or_sound (fault_in repo x (file_at g (place_in repo x))) (first_fault repo objects g) (by (file_at g (place_in repo x)) refl) (first_sound objects)
@@ -323,7 +207,7 @@ module _ (root : Names) (g : Ground) (at : IsSoundAt root g) where
       by : (file : Option (List ℕ)) → file_at g (place_in repo x) ≡ file → Soundly (fault_in repo x file)
       by None e = tt
       by (Some bytes) e =
-          let held = some_held (held_at g repo (oid x.kind x.body)) (at.objects.named (oid x.kind x.body) (oid_is_id x.kind x.body) (ap (λ (o : Option (List ℕ)). is_some o) e)) in
+          let held = object_held root g at (oid x.kind x.body) bytes (oid_is_id x.kind x.body) e in
           found_sound x bytes held.0 e held.1
 
   long_objects : (objects : List NewObject) → Soundly (long_fault repo objects)
@@ -344,7 +228,7 @@ module _ (root : Names) (g : Ground) (at : IsSoundAt root g) where
 
   set_sound : (h : Ground) → head_at repo h ≡ head_at repo g → Soundly (set_fault repo h)
   set_sound h same =
-      or_sound (head_fault repo h) (long_repo repo) (head_sound repo g at.heads.head at.heads.leads h same)
+      or_sound (head_fault repo h) (long_repo repo) (limit_sound (head_fault repo h) (head_read repo g at.heads.head at.heads.leads h same))
       (cond_sound (nat_lt repo_limit (length (text_of repo))) (large repo) None tt tt)
 
   sets_sound : (id : List ℕ) (h : Ground) → head_at repo h ≡ head_at repo g → EndsSoundly (sets_tip repo id h)

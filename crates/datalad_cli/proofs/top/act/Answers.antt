@@ -16,13 +16,13 @@ returns-in_ok-version-in-Version-clause-acts g c =
 pub returns-in_ok-help-in_default-clause-says : goal.returns-in_ok-help-in_default-clause-says
 returns-in_ok-help-in_default-clause-says g c =
     let none = c.in_default in
-    let help : command_of c.args.cwd.now c.args.moment c.args.fresh.now c.args.asked.now ≡ Help = others_help c.args.cwd.now c.args.moment c.args.fresh.now c.args.asked.now none.not-Create none.not-Save none.not-Log none.not-Version in
+    let help : command_of c.args.cwd.now c.args.moment c.args.fresh.now c.args.asked.now ≡ Help = others_help c.args.cwd.now c.args.moment c.args.fresh.now c.args.asked.now none.not-Create none.not-Save none.not-Status none.not-Log none.not-Version in
     subst (λ (command : Command). MaySay command c.args.lines.now.items (Ok c.in_ok-help-in_default.field-0)) (sym help) (c.in_ok-help-in_default.ensures, c.requires)
 
 pub returns-in_ok-help-in_default-clause-acts : goal.returns-in_ok-help-in_default-clause-acts
 returns-in_ok-help-in_default-clause-acts g c =
     let none = c.in_default in
-    let help : command_of c.args.cwd.now c.args.moment c.args.fresh.now c.args.asked.now ≡ Help = others_help c.args.cwd.now c.args.moment c.args.fresh.now c.args.asked.now none.not-Create none.not-Save none.not-Log none.not-Version in
+    let help : command_of c.args.cwd.now c.args.moment c.args.fresh.now c.args.asked.now ≡ Help = others_help c.args.cwd.now c.args.moment c.args.fresh.now c.args.asked.now none.not-Create none.not-Save none.not-Status none.not-Log none.not-Version in
     let d = g.F.Files.drive c.args.files.now in
     let l = c.args.lines.now.items in
     subst (λ (command : Command). CarriesOut g.F.Files.tells command l l d d (Ok c.in_ok-help-in_default.field-0)) (sym help)

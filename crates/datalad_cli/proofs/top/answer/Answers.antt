@@ -30,7 +30,10 @@ returns g c = λ words ask.
       remains = c.laws.ensures.remains;
       complete = c.laws.ensures.complete;
       single = c.laws.ensures.single;
+      status = c.laws.ensures.status;
+      seen = c.laws.ensures.seen;
       logged = c.laws.ensures.logged;
+      answers = c.laws.ensures.answers;
     } in
     let printed : ReportEnds t.heard lines c.act-outcome.result old.tapes new.tapes c.report.result =
     subst (λ (ls : List Line). ReportEnds t.heard ls c.act-outcome.result old.tapes new.tapes c.report.result) c.as_slice.ensures.value c.report.ensures.ends in

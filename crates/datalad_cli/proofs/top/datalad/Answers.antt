@@ -20,7 +20,10 @@ returns-in-Err-NoMemory g c =
       remains = c.laws.ensures.remains;
       complete = c.laws.ensures.complete;
       single = c.laws.ensures.single;
+      status = c.laws.ensures.status;
+      seen = c.laws.ensures.seen;
       logged = c.laws.ensures.logged;
+      answers = c.laws.ensures.answers;
     } in
     subst (λ (s : Status). Answered t call (world_of d o (g.E.Sink.tape c.args.err.now)) (world_of d o (g.E.Sink.tape c.starved.new.sink)) s) (sym c.starved.ensures.status)
     (starved_early t call d o (g.E.Sink.tape c.args.err.now) (g.E.Sink.tape c.starved.new.sink) (one_reading c.laws.ensures.asked c.laws.ensures.ended call)

@@ -1,10 +1,12 @@
 use Rattle.std.proofs.Common.{◌≡◌, List, ℕ, Ok, inl, refl, sym, subst}
 use Rattle.file_store.specs.All.{present}
 use Rattle.acts.proofs.As.{as_exits, as_unread}
-use Rattle.datalad_cli.specs.Commands.{CarriesOut, Log}
+use Rattle.history.specs.All.{MayLog}
+use Rattle.repository.specs.All.{repo_of}
+use Rattle.datalad_cli.specs.Commands.{CarriesOut, Log, LogComes}
 use Rattle.datalad_cli.specs.Words.{revision_by}
 use Rattle.datalad_cli.proofs.Acting.{as_after, none_found, found_later}
-use Rattle.datalad_cli.proofs.Logging.{log_gave, log_failed}
+use Rattle.datalad_cli.proofs.ReadActs.{read_gave, read_failed}
 use Rattle.datalad_cli.proofs.top.log_at.Goals as goal
 
 pub returns-in_err-root-clause-acts : goal.returns-in_err-root-clause-acts
@@ -18,7 +20,7 @@ returns-in_err-text-clause-acts g c =
     let d = g.F.Files.drive in
     as_exits c.from_residual-in_err-text.ensures.1
     (as_after found.later (λ t. (found.told t).same)
-    (log_failed c.args.cwd.now (revision_by c.args.word.now) c.in_ok-root.root c.in_ok-root.ensures.above g.F.Files.tells c.args.lines.now.items (d c.find_root.new.files) (d c.log.new.files)
+    (read_failed (LogComes (revision_by c.args.word.now)) (λ root fault. MayLog (repo_of root) (revision_by c.args.word.now) fault) c.args.cwd.now c.in_ok-root.root c.in_ok-root.ensures.above g.F.Files.tells c.args.lines.now.items (d c.find_root.new.files) (d c.log.new.files)
     (λ t. found_later c.args.cwd.now c.in_ok-root.root (d c.args.files.now) (d c.find_root.new.files) (found.told t).same (found.told t).answer) c.in_err-text.field-0.0
     (rw (c.in_ok-repo.ensures, c.revision_by.ensures) at c.in_err-text.ensures.reads)))
 
@@ -30,6 +32,6 @@ returns-clause-acts g c =
     let l = c.args.lines.now.items in
     subst (λ (text : List ℕ). CarriesOut g.F.Files.tells (Log c.args.cwd.now (revision_by c.args.word.now)) l l (d c.args.files.now) (d c.log.new.files) (Ok text)) (sym c.new.ensures)
     (as_after found.later (λ t. (found.told t).same)
-    (log_gave c.args.cwd.now (revision_by c.args.word.now) c.in_ok-root.root c.in_ok-root.ensures.above g.F.Files.tells l (d c.find_root.new.files) (d c.log.new.files)
+    (read_gave (LogComes (revision_by c.args.word.now)) (λ root fault. MayLog (repo_of root) (revision_by c.args.word.now) fault) c.args.cwd.now c.in_ok-root.root c.in_ok-root.ensures.above g.F.Files.tells l (d c.find_root.new.files) (d c.log.new.files)
     (λ t. found_later c.args.cwd.now c.in_ok-root.root (d c.args.files.now) (d c.find_root.new.files) (found.told t).same (found.told t).answer)
     c.in_ok-text.text.items reads.later (λ t. ((reads.told t).same, (reads.told t).answer))))
