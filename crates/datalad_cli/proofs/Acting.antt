@@ -1,11 +1,10 @@
 -- Acts with a text in the place of their value, and calls that act after they have read.
 use Rattle.std.proofs.Common.{◌≡◌, ◌⊎◌, inl, inr, Bool, IsTrue, ℕ, List, [], ◌∷◌, ◌++◌, codes, Option, Some, None, Result, Ok, Err, refl, sym, ap, ◌∙◌, subst}
-use Rattle.places.specs.All.{Names, Ground, IsAtOrAbove}
+use Rattle.places.specs.All.{Names, Ground}
 use Rattle.file_store.specs.All.{Drive, History, present}
 use Rattle.faults.specs.declared.lines.Line.{Line}
 use Rattle.faults.specs.declared.faults.Fault.{Fault}
 use Rattle.faults.specs.declared.faults.Trouble.{Trouble}
-use Rattle.faults.specs.declared.faults.Fault.TheVariants.{NotADataset}
 use Rattle.faults.specs.declared.faults.Trouble.TheVariants.{Refused, Device, NoMemory}
 use Rattle.git_objects.specs.declared.ids.Id.{Id}
 use Rattle.acts.specs.All.{Act, Ending, Gives, Refuses, Breaks, Acts, ActsAs, EndsRefused, Goes}
@@ -16,7 +15,7 @@ use Rattle.acts.proofs.Laws.{after_reading, done}
 use Rattle.recursive_save.specs.All.{AreSaveLines, IsSave, MaySave, SaveSays, dataset_line}
 use Rattle.datalad_cli.specs.Commands.{CarriesOut, Save, IsActIn, IsActOf, IsSaveAct, MayAnswer}
 use Rattle.datalad_cli.specs.Commands.{ending_with, wish_of, with_text}
-use Rattle.datalad_cli.specs.Finding.{root_at}
+use Rattle.datalad_cli.specs.Finding.{IsRootOf, Location, no_root, root_in}
 
 -- A CALL AFTER A READING
 more_cause : (V W : Type 0) (may more : Fault → Type 0) → ((fault : Fault) → may fault → more fault) → (t : Trouble) → HasCause {V = V} may (Err t) → HasCause {V = W} more (Err t)
@@ -85,16 +84,16 @@ same_halt V W (Refused fault) h = absurd h
 same_halt V W Device h = h
 same_halt V W NoMemory h = h
 
-module _ (cwd : Names) (message : List ℕ) (moment : ℕ) (root : Names) (at : IsAtOrAbove root cwd) (tells : Bool) (l0 l1 : List Line) (d0 d1 : Drive)
-    (found : IsTrue tells → root_at cwd (present d0) ≡ Some root) where
-  act_at : (g : Ground) (saved : Act (Option Id)) → root_at cwd g ≡ Some root → IsSave root (wish_of message moment) g saved → IsActOf (Save cwd message moment) g (with_text [] saved)
-  act_at g saved is one = subst (λ (o : Option Names). IsActIn cwd (IsSaveAct (wish_of message moment) g) o (with_text [] saved)) (sym is) (saved, one, refl)
+module _ (at : Location) (message : List ℕ) (moment : ℕ) (root : Names) (there : IsRootOf at root) (tells : Bool) (l0 l1 : List Line) (d0 d1 : Drive)
+    (found : IsTrue tells → root_in at (present d0) ≡ Some root) where
+  act_at : (g : Ground) (saved : Act (Option Id)) → root_in at g ≡ Some root → IsSave root (wish_of message moment) g saved → IsActOf (Save at message moment) g (with_text [] saved)
+  act_at g saved is one = subst (λ (o : Option Names). IsActIn at (IsSaveAct (wish_of message moment) g) o (with_text [] saved)) (sym is) (saved, one, refl)
 
   abbrev Saves : Result (Option Id) Trouble → Type 0
   Saves r = ActsAs (λ fault. MaySave tells root fault) tells (λ g act. IsSave root (wish_of message moment) g act) l0 l1 d0 d1 r
 
   abbrev Does : Result (List ℕ) Trouble → Type 0
-  Does r = CarriesOut tells (Save cwd message moment) l0 l1 d0 d1 r
+  Does r = CarriesOut tells (Save at message moment) l0 l1 d0 d1 r
 
   gave : (v : Option Id) → Saves (Ok v) → Does (Ok [])
   gave v acts = record {
@@ -112,7 +111,7 @@ module _ (cwd : Names) (message : List ℕ) (moment : ℕ) (root : Names) (at : 
   pub save_failed : (t : Trouble) → Saves (Err t) → Does (Err t)
   save_failed e acts = record {
     later = acts.later;
-    cause = more_cause (Option Id) (List ℕ) (λ fault. MaySave tells root fault) (λ fault. MayAnswer tells (Save cwd message moment) fault) (λ fault may. inr (root, at, may)) e acts.cause;
+    cause = more_cause (Option Id) (List ℕ) (λ fault. MaySave tells root fault) (λ fault. MayAnswer tells (Save at message moment) fault) (λ fault may. inr (root, there, may)) e acts.cause;
     told = λ t. elim (acts.told t) [
       | inl halt ↦ inl (record { why = same_halt (Option Id) (List ℕ) e halt.why; said = halt.said; kept = halt.kept })
       | inr one ↦ inr (with_text [] one.0, act_at (present d0) one.0 (found t) one.1, goes_err one.0 [] d0 d1 l0 l1 e one.2)
@@ -120,13 +119,13 @@ module _ (cwd : Names) (message : List ℕ) (moment : ℕ) (root : Names) (at : 
   }
 
 -- no root was found
-pub none_found : (cwd : Names) (IsIts : Names → Act (List ℕ) → Type 0) (g : Ground) (fault : Fault) → root_at cwd g ≡ None → fault ≡ NotADataset cwd → IsActIn cwd IsIts (root_at cwd g) (still (Refuses fault))
-none_found cwd IsIts g fault none is =
-    subst (λ (o : Option Names). IsActIn cwd IsIts o (still (Refuses fault))) (sym none) (ap (λ (f : Fault). still (Refuses f)) is)
+pub none_found : (at : Location) (IsIts : Names → Act (List ℕ) → Type 0) (g : Ground) (fault : Fault) → root_in at g ≡ None → fault ≡ no_root at → IsActIn at IsIts (root_in at g) (still (Refuses fault))
+none_found at IsIts g fault none is =
+    subst (λ (o : Option Names). IsActIn at IsIts o (still (Refuses fault))) (sym none) (ap (λ (f : Fault). still (Refuses f)) is)
 
 -- a root that was found is one after a reading too
-pub found_later : (cwd root : Names) (old mid : Drive) → mid.history ≡ old.history → root_at cwd (present old) ≡ Some root → root_at cwd (present mid) ≡ Some root
-found_later cwd root old mid same is = ap (λ (h : History). root_at cwd h.latest.now) same ∙ is
+pub found_later : (at : Location) (root : Names) (old mid : Drive) → mid.history ≡ old.history → root_in at (present old) ≡ Some root → root_in at (present mid) ≡ Some root
+found_later at root old mid same is = ap (λ (h : History). root_in at h.latest.now) same ∙ is
 
 -- the lines of a save, after none
 pub save_lines : (before after : List Line) (v : Option Id) → before ≡ [] → SaveSays before after (Ok v) → AreSaveLines after ⊎ (after ≡ dataset_line (codes "notneeded") ∷ [])

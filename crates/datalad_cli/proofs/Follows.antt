@@ -15,6 +15,7 @@ use Rattle.dl_words.specs.declared.words.Words.TheVariants as words
 use Rattle.datalad_cli.specs.Commands.{Command, Help, HasOneAct, IsActOf, IsSoundFault, Log, LogComes}
 use Rattle.datalad_cli.specs.Commands.{MayAnswer, Status, Version, command_of}
 use Rattle.datalad_cli.specs.Ends.{AtEachMoment, KeepsSound}
+use Rattle.datalad_cli.specs.Finding.{Location, location_by}
 use Rattle.datalad_cli.specs.Help.{help_text, version_text}
 use Rattle.datalad_cli.specs.Words.{leads, message_by, revision_by}
 use Rattle.datalad_cli.proofs.Kept.{create_leaves, nothing_left, save_leaves}
@@ -42,30 +43,30 @@ pub record CommandLaws : Type 0 where
   pub answers : LogIsComplete
 
 module _ (laws : CommandLaws) (cwd : Names) (moment : ℕ) (dated : moment < 2 ^ 64) (fresh : List ℕ) (old new : Drive) where
-  log_follows : (word : List ℕ) → Follows (Log cwd word) old new
-  log_follows word = record {
+  log_follows : (at : Location) (word : List ℕ) → Follows (Log at word) old new
+  log_follows at word = record {
     leaves = λ act is m.
-        let none = read_still (LogComes word) cwd (present old) act is in
+        let none = read_still (LogComes word) at (present old) act is in
         let left = nothing_left none.0 act old new none.1 m in
         record { along = m; stands = left.0; images = left.1 };
     sound = λ act is can sound settled.
-        let none = read_still (LogComes word) cwd (present old) act is in
+        let none = read_still (LogComes word) at (present old) act is in
         still_sound none.0 act old new none.1 sound settled;
-    refused = λ act fault is ends may sound. read_refused (LogComes word) (IsSoundNoLog word) (λ root g own. laws.answers root word g own) cwd (present old) fault (Reaches act old new) act is ends sound;
-    one = λ one two is other. read_has_one (LogComes word) (λ root. laws.logged (repo_of root) word) cwd (present old) one two is other;
+    refused = λ act fault is ends may sound. read_refused (LogComes word) (IsSoundNoLog word) (λ root g own. laws.answers root word g own) at (present old) fault (Reaches act old new) act is ends sound;
+    one = λ one two is other. read_has_one (LogComes word) (λ root. laws.logged (repo_of root) word) at (present old) one two is other;
   }
 
-  status_follows : Follows (Status cwd) old new
-  status_follows = record {
+  status_follows : (at : Location) → Follows (Status at) old new
+  status_follows at = record {
     leaves = λ act is m.
-        let none = read_still StatusEnds cwd (present old) act is in
+        let none = read_still StatusEnds at (present old) act is in
         let left = nothing_left none.0 act old new none.1 m in
         record { along = m; stands = left.0; images = left.1 };
     sound = λ act is can sound settled.
-        let none = read_still StatusEnds cwd (present old) act is in
+        let none = read_still StatusEnds at (present old) act is in
         still_sound none.0 act old new none.1 sound settled;
-    refused = λ act fault is ends may sound. read_refused StatusEnds IsSoundRefusal laws.seen cwd (present old) fault (Reaches act old new) act is ends sound;
-    one = λ one two is other. read_has_one StatusEnds laws.status cwd (present old) one two is other;
+    refused = λ act fault is ends may sound. read_refused StatusEnds IsSoundRefusal laws.seen at (present old) fault (Reaches act old new) act is ends sound;
+    one = λ one two is other. read_has_one StatusEnds laws.status at (present old) one two is other;
   }
 
   help_follows : Follows Help old new
@@ -100,14 +101,15 @@ module _ (laws : CommandLaws) (cwd : Names) (moment : ℕ) (dated : moment < 2 ^
       }
   follows (words.Save dataset message message_file recursive to_git paths) =
       let text = message_by message in
+      let at = location_by cwd dataset in
       record {
-        leaves = λ act is m. save_leaves laws.remains cwd text moment old new act is m;
-        sound = λ act is. save_sound laws.kept cwd text moment old new act is;
-        refused = λ act fault is ends may sound. save_refused laws.complete cwd text moment (present old) fault (Reaches act old new) act is ends sound;
-        one = save_is_one laws.single cwd text moment (present old);
+        leaves = λ act is m. save_leaves laws.remains at text moment old new act is m;
+        sound = λ act is. save_sound laws.kept at text moment old new act is;
+        refused = λ act fault is ends may sound. save_refused laws.complete at text moment (present old) fault (Reaches act old new) act is ends sound;
+        one = save_is_one laws.single at text moment (present old);
       }
-  follows (words.Status dataset recursive) = status_follows
-  follows (words.Log dataset revision) = log_follows (revision_by revision)
+  follows (words.Status dataset recursive) = status_follows (location_by cwd dataset)
+  follows (words.Log dataset revision) = log_follows (location_by cwd dataset) (revision_by revision)
   follows words.Version = version_follows
   follows other = help_follows
 

@@ -6,7 +6,7 @@ use Rattle.std.specs.List.{list_all}
 use Rattle.places.specs.All.{Names, IsPlace, is_name, text_of, longest, target, has_name}
 use Rattle.places.proofs.Texts.{and_both, all_names, names_all}
 use Rattle.repository.specs.All.{dlrepo}
-use Rattle.datalad_cli.specs.Words.{is_place, may_be_made, leads}
+use Rattle.datalad_cli.specs.Words.{is_place, may_be_made, leads, place_by}
 
 short : (n : ℕ) → n ≤ longest → nat_le n longest ≡ true
 short n h = grind (arith, nat_tests)
@@ -59,3 +59,12 @@ leads_inside cwd (b ∷ word) h k = λ i. if may_not (target cwd (b ∷ word)) h
 pub leads_nowhere : (cwd : Names) (word : List ℕ) → (0 < length word → IsPlace (target cwd word) → ⊥) → leads cwd word ≡ None
 leads_nowhere cwd [] h = refl
 leads_nowhere cwd (b ∷ word) h = λ i. if may_not_at (target cwd (b ∷ word)) (h (omega arith)) i then Some (target cwd (b ∷ word)) else None
+
+-- THE LAWS of the place to which a word leads
+pub place_there : (cwd : Names) (word : List ℕ) → 0 < length word → IsPlace (target cwd word) → place_by cwd word ≡ Some (target cwd word)
+place_there cwd [] some h = absurd (omega arith)
+place_there cwd (b ∷ word) some h = λ i. if place_is (target cwd (b ∷ word)) h i then Some (target cwd (b ∷ word)) else None
+
+pub place_nowhere : (cwd : Names) (word : List ℕ) → (0 < length word → IsPlace (target cwd word) → ⊥) → place_by cwd word ≡ None
+place_nowhere cwd [] h = refl
+place_nowhere cwd (b ∷ word) h = λ i. if no_place (target cwd (b ∷ word)) (h (omega arith)) i then Some (target cwd (b ∷ word)) else None

@@ -7,7 +7,8 @@ use Rattle.std.proofs.lemmas.List.{reverse-append, reverse-reverse}
 use Rattle.places.specs.All.{Names, Ground, IsAtOrAbove, joined, longest, pieces, stands, text_of}
 use Rattle.places.proofs.Cuts.{below_text}
 use Rattle.repository.specs.All.{dlrepo, head_place}
-use Rattle.datalad_cli.specs.Finding.{head_within, is_root, root_up, root_at, stands_within}
+use Rattle.datalad_cli.specs.Finding.{At, Location, Near, head_within, is_root, root_in, root_up, root_at}
+use Rattle.datalad_cli.specs.Finding.{stands_within}
 
 -- THE PLACE of HEAD
 pub head_text : (root : Names) → joined root (codes ".dlrepo/HEAD") ≡ text_of (head_place root)
@@ -78,3 +79,13 @@ found_up g (name ∷ above) root e = if_root g (reverse (name ∷ above)) root (
 pub head_stands : (g : Ground) (place root : Names) → root_at place g ≡ Some root → stands g (head_place root) ≡ true
 unfolding root_at
 head_stands g place root e = within_stands g root (nat_lt longest (length (text_of (head_place root)))) (found_up g (reverse place) root e)
+
+-- at the root in which a command works too
+pub root_stands : (g : Ground) (at : Location) (root : Names) → root_in at g ≡ Some root → stands g (head_place root) ≡ true
+root_stands g (Near place) root e = head_stands g place root e
+root_stands g (At None index) root e = absurd (cc e)
+root_stands g (At (Some place) index) root e = by (is_root g place) refl e
+  where
+    by : (b : Bool) → is_root g place ≡ b → (if b then Some place else None) ≡ Some root → stands g (head_place root) ≡ true
+    by true is same = head_stands g place root (here g place is ∙ same)
+    by false is none = absurd (cc none)

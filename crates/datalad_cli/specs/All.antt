@@ -15,7 +15,9 @@ pub use Rattle.datalad_cli.specs.Ends.{AtEachMoment, CommandEnds, EndsHalted, Ke
 pub use Rattle.datalad_cli.specs.Ends.{NoneFailed, ReadingEnds, RefusesSoundly, StatusCause}
 pub use Rattle.datalad_cli.specs.Ends.{StatusEnds, Telling, WasCutOff, WentAs, World}
 pub use Rattle.datalad_cli.specs.Ends.{ending_text, given_text, telling_of, world_of}
-pub use Rattle.datalad_cli.specs.Finding.{HasRoom, head_within, is_root, root_up, stands_within}
+pub use Rattle.datalad_cli.specs.Finding.{At, HasRoom, IsRootOf, Location, Near, head_within}
+pub use Rattle.datalad_cli.specs.Finding.{is_root, location_by, no_root, root_in, root_up}
+pub use Rattle.datalad_cli.specs.Finding.{stands_within}
 unfoldable pub use Rattle.datalad_cli.specs.Finding.{root_at}
 unfoldable pub use Rattle.datalad_cli.specs.Help.{help_commands, help_end, help_text, help_usage}
 unfoldable pub use Rattle.datalad_cli.specs.Help.{version_text}
@@ -24,6 +26,6 @@ pub use Rattle.datalad_cli.specs.Reports.{ReportEnds, Says, SaysPart, SomeRose, 
 pub use Rattle.datalad_cli.specs.Reports.{Tapes, TextEnds, TookPart, TookText, UsageEnds}
 pub use Rattle.datalad_cli.specs.Reports.{WasCutShort, WasHindered, WasUnhindered, of_device}
 pub use Rattle.datalad_cli.specs.Reports.{of_memory, outcome_gives, outcome_text, printed}
-pub use Rattle.datalad_cli.specs.Words.{leads, message_by, revision_by}
+pub use Rattle.datalad_cli.specs.Words.{leads, message_by, place_by, revision_by}
 unfoldable pub use Rattle.datalad_cli.specs.Words.{default_message, is_place, may_be_made}
 unfoldable pub use Rattle.datalad_cli.specs.Words.{message_of}

@@ -2,11 +2,11 @@
 -- every moment. A command is added by a case of each definition.
 use Rattle.std.specs.Prelude.{◌≡◌, ◌⊎◌, ℕ, Bool, true, false, List, [], ◌∷◌, Option, Some}
 use Rattle.std.specs.Prelude.{None, Result, Ok, Err, codes}
-use Rattle.places.specs.All.{Names, Ground, IsAtOrAbove}
+use Rattle.places.specs.All.{Names, Ground}
 use Rattle.faults.specs.declared.lines.Line.{Line}
 use Rattle.faults.specs.declared.faults.Fault.{Fault}
 use Rattle.faults.specs.declared.faults.Trouble.{Trouble}
-use Rattle.faults.specs.declared.faults.Fault.TheVariants.{BadPath, NotADataset}
+use Rattle.faults.specs.declared.faults.Fault.TheVariants.{BadPath}
 use Rattle.acts.specs.All.{Act, ActsAs, Ending, Gives, Refuses, Breaks, Step, still, gives, refuses}
 use Rattle.acts.specs.All.{IsSame, bind}
 use Rattle.file_store.specs.All.{Drive}
@@ -23,19 +23,19 @@ use Rattle.dl_words.specs.All.{AskFor, EndsAt, is_built}
 use Rattle.dl_words.specs.declared.words.Words.{Words}
 use Rattle.dl_words.specs.declared.words.Words.TheVariants as words
 use Rattle.datalad_cli.specs.Answer.{Call}
-use Rattle.datalad_cli.specs.Finding.{root_at}
+use Rattle.datalad_cli.specs.Finding.{IsRootOf, Location, location_by, no_root, root_in}
 use Rattle.datalad_cli.specs.Help.{help_text, version_text}
 use Rattle.datalad_cli.specs.Words.{leads, message_by, revision_by}
 
 -- A command, with all that it takes from the words, the working directory, the clock and the random
 -- bytes: `create` by where its word leads, if a dataset may be made there, and by that word's
--- index; `save` by the working directory, with the commit's message; `status` by it; `log` by it,
--- with the revision's word; `--help` and `--version`.
+-- index; `save` by where it works, with the commit's message; `status` by that; `log` by it, with
+-- the revision's word; `--help` and `--version`.
 pub data Command : Type 0 where
   Create : Option Names → ℕ → ℕ → List ℕ → Command
-  Save : Names → List ℕ → ℕ → Command
-  Status : Names → Command
-  Log : Names → List ℕ → Command
+  Save : Location → List ℕ → ℕ → Command
+  Status : Location → Command
+  Log : Location → List ℕ → Command
   Help : Command
   Version : Command
 
@@ -87,20 +87,19 @@ IsReadAct ComesTo g root act =
 abbrev pub LogComes : List ℕ → Comes
 LogComes word root g end = LogEnds (repo_of root) word g end
 
--- An act of a command that works in the dataset in which its directory lies, by the dataset's root:
--- refused where there is none.
-abbrev pub IsActIn : Names → (Names → Act (List ℕ) → Type 0) → Option Names → Act (List ℕ) → Type 0
-IsActIn cwd IsIts None act = act ≡ still (Refuses (NotADataset cwd))
-IsActIn cwd IsIts (Some root) act = IsIts root act
+-- An act of a command that works in a dataset, by the dataset's root: refused where there is none.
+abbrev pub IsActIn : Location → (Names → Act (List ℕ) → Type 0) → Option Names → Act (List ℕ) → Type 0
+IsActIn at IsIts None act = act ≡ still (Refuses (no_root at))
+IsActIn at IsIts (Some root) act = IsIts root act
 
 -- An act is one of the command's, at a ground.
 abbrev pub IsActOf : Command → Ground → Act (List ℕ) → Type 0
 IsActOf (Create dir at moment fresh) g act = act ≡ creates dir at moment fresh g
-IsActOf (Save cwd message moment) g act =
-    IsActIn cwd (IsSaveAct (wish_of message moment) g) (root_at cwd g) act
-IsActOf (Status cwd) g act = IsActIn cwd (IsReadAct StatusEnds g) (root_at cwd g) act
-IsActOf (Log cwd word) g act =
-    IsActIn cwd (IsReadAct (LogComes word) g) (root_at cwd g) act
+IsActOf (Save at message moment) g act =
+    IsActIn at (IsSaveAct (wish_of message moment) g) (root_in at g) act
+IsActOf (Status at) g act = IsActIn at (IsReadAct StatusEnds g) (root_in at g) act
+IsActOf (Log at word) g act =
+    IsActIn at (IsReadAct (LogComes word) g) (root_in at g) act
 IsActOf Help g act = act ≡ still (Gives help_text)
 IsActOf Version g act = act ≡ still (Gives version_text)
 
@@ -109,21 +108,21 @@ abbrev pub HasOneAct : Command → Ground → Type 0
 HasOneAct command g =
     (one two : Act (List ℕ)) → IsActOf command g one → IsActOf command g two → one ≡ two
 
--- A fault of a command that works in the dataset in which its directory lies: there is none, or it
--- is one of the command's at a root above.
-abbrev pub MayIn : Names → (Names → Type 0) → Fault → Type 0
-MayIn cwd MayAt fault =
-    (fault ≡ NotADataset cwd) ⊎ ((root : Names) × IsAtOrAbove root cwd × MayAt root)
+-- A fault of a command that works in a dataset: there is none, or it is one of the command's at a
+-- root of its location.
+abbrev pub MayIn : Location → (Names → Type 0) → Fault → Type 0
+MayIn at MayAt fault =
+    (fault ≡ no_root at) ⊎ ((root : Names) × IsRootOf at root × MayAt root)
 
 -- The faults that a command may answer, whatever the files tell.
 abbrev pub MayAnswer : Bool → Command → Fault → Type 0
 MayAnswer tells (Create None at moment fresh) fault = fault ≡ BadPath at
 MayAnswer tells (Create (Some root) at moment fresh) fault =
     MayCreate tells (new_dataset root moment fresh) fault
-MayAnswer tells (Save cwd message moment) fault =
-    MayIn cwd (λ root. MaySave tells root fault) fault
-MayAnswer tells (Status cwd) fault = MayIn cwd (λ root. MayView tells root fault) fault
-MayAnswer tells (Log cwd word) fault = MayIn cwd (λ root. MayLog (repo_of root) word fault) fault
+MayAnswer tells (Save at message moment) fault =
+    MayIn at (λ root. MaySave tells root fault) fault
+MayAnswer tells (Status at) fault = MayIn at (λ root. MayView tells root fault) fault
+MayAnswer tells (Log at word) fault = MayIn at (λ root. MayLog (repo_of root) word fault) fault
 MayAnswer tells Help fault = ⊥
 MayAnswer tells Version fault = ⊥
 
@@ -143,20 +142,20 @@ MaySay (Create None at moment fresh) lines (Err trouble) = lines ≡ []
 MaySay (Create (Some root) at moment fresh) lines (Ok text) =
     (text ≡ []) × (lines ≡ created_line root ∷ [])
 MaySay (Create (Some root) at moment fresh) lines (Err trouble) = lines ≡ []
-MaySay (Save cwd message moment) lines (Ok text) =
+MaySay (Save at message moment) lines (Ok text) =
     (text ≡ []) × (AreSaveLines lines ⊎ (lines ≡ dataset_line (codes "notneeded") ∷ []))
-MaySay (Save cwd message moment) lines (Err trouble) = lines ≡ []
-MaySay (Status cwd) lines (Ok text) = IsStatusText text × (lines ≡ [])
-MaySay (Status cwd) lines (Err trouble) = lines ≡ []
-MaySay (Log cwd word) lines (Ok text) = IsLogText text × (lines ≡ [])
-MaySay (Log cwd word) lines (Err trouble) = lines ≡ []
+MaySay (Save at message moment) lines (Err trouble) = lines ≡ []
+MaySay (Status at) lines (Ok text) = IsStatusText text × (lines ≡ [])
+MaySay (Status at) lines (Err trouble) = lines ≡ []
+MaySay (Log at word) lines (Ok text) = IsLogText text × (lines ≡ [])
+MaySay (Log at word) lines (Err trouble) = lines ≡ []
 MaySay Help lines (Ok text) = (text ≡ help_text) × (lines ≡ [])
 MaySay Help lines (Err trouble) = lines ≡ []
 MaySay Version lines (Ok text) = (text ≡ version_text) × (lines ≡ [])
 MaySay Version lines (Err trouble) = lines ≡ []
 
--- What a save leaves, by the root of the dataset in which its directory lies: nothing has changed
--- where there is none.
+-- What a save leaves, by the root of the dataset in which it works: nothing has changed where there
+-- is none.
 abbrev pub LeavesAt : Option Names → Ground → (Names → Option (List ℕ) → Type 0) → Ground → Ground
     → Type 0
 LeavesAt None end Else g x = IsSame Else g x
@@ -169,9 +168,9 @@ abbrev pub Leaves : Command → Ground → (Names → Option (List ℕ) → Type
 Leaves (Create None at moment fresh) end Else g x = IsSame Else g x
 Leaves (Create (Some root) at moment fresh) end Else g x =
     CreateRemains (new_dataset root moment fresh) Else g x
-Leaves (Save cwd message moment) end Else g x = LeavesAt (root_at cwd g) end Else g x
-Leaves (Status cwd) end Else g x = IsSame Else g x
-Leaves (Log cwd word) end Else g x = IsSame Else g x
+Leaves (Save at message moment) end Else g x = LeavesAt (root_in at g) end Else g x
+Leaves (Status at) end Else g x = IsSame Else g x
+Leaves (Log at word) end Else g x = IsSame Else g x
 Leaves Help end Else g x = IsSame Else g x
 Leaves Version end Else g x = IsSame Else g x
 
@@ -181,9 +180,9 @@ abbrev pub CanKeep : Command → Type 0
 CanKeep (Create None at moment fresh) = Unit {0}
 CanKeep (Create (Some root) at moment fresh) =
     NoneCollide (repo_of root) (new_parts (new_dataset root moment fresh)).objects
-CanKeep (Save cwd message moment) = Unit {0}
-CanKeep (Status cwd) = Unit {0}
-CanKeep (Log cwd word) = Unit {0}
+CanKeep (Save at message moment) = Unit {0}
+CanKeep (Status at) = Unit {0}
+CanKeep (Log at word) = Unit {0}
 CanKeep Help = Unit {0}
 CanKeep Version = Unit {0}
 
@@ -191,9 +190,9 @@ CanKeep Version = Unit {0}
 abbrev pub IsSoundFault : Command → Fault → Type 0
 IsSoundFault (Create dir at moment fresh) fault =
     MayAnswer true (Create dir at moment fresh) fault
-IsSoundFault (Save cwd message moment) fault = (fault ≡ NotADataset cwd) ⊎ IsSoundRefusal fault
-IsSoundFault (Status cwd) fault = (fault ≡ NotADataset cwd) ⊎ IsSoundRefusal fault
-IsSoundFault (Log cwd word) fault = (fault ≡ NotADataset cwd) ⊎ IsSoundNoLog word fault
+IsSoundFault (Save at message moment) fault = (fault ≡ no_root at) ⊎ IsSoundRefusal fault
+IsSoundFault (Status at) fault = (fault ≡ no_root at) ⊎ IsSoundRefusal fault
+IsSoundFault (Log at word) fault = (fault ≡ no_root at) ⊎ IsSoundNoLog word fault
 IsSoundFault Help fault = ⊥
 IsSoundFault Version fault = ⊥
 
@@ -209,9 +208,10 @@ abbrev pub command_of : Names → ℕ → List ℕ → Words → Command
 command_of cwd moment fresh (words.Create dataset path) =
     Create (leads cwd path.text) path.index moment fresh
 command_of cwd moment fresh (words.Save dataset message message_file recursive to_git paths) =
-    Save cwd (message_by message) moment
-command_of cwd moment fresh (words.Status dataset recursive) = Status cwd
-command_of cwd moment fresh (words.Log dataset revision) = Log cwd (revision_by revision)
+    Save (location_by cwd dataset) (message_by message) moment
+command_of cwd moment fresh (words.Status dataset recursive) = Status (location_by cwd dataset)
+command_of cwd moment fresh (words.Log dataset revision) =
+    Log (location_by cwd dataset) (revision_by revision)
 command_of cwd moment fresh words.Version = Version
 command_of cwd moment fresh other = Help
 

@@ -1,8 +1,12 @@
--- The root of the dataset in which a place lies.
-use Rattle.std.specs.Prelude.{◌≤◌, Bool, false, [], ◌∷◌, length, nat_lt, Option, Some, None, codes}
+-- The root of the dataset in which a command works.
+use Rattle.std.specs.Prelude.{◌≡◌, ◌≤◌, ℕ, Bool, false, [], ◌∷◌, length, nat_lt, Option, Some, None, codes}
 use Rattle.std.specs.Prelude.{if◌then◌else◌, reverse}
-use Rattle.places.specs.All.{Names, Ground, text_of, joined, stands, longest}
+use Rattle.places.specs.All.{Names, Ground, IsAtOrAbove, text_of, joined, stands, longest}
+use Rattle.faults.specs.declared.faults.Fault.{Fault}
+use Rattle.faults.specs.declared.faults.Fault.TheVariants.{BadPath, NotADataset}
+use Rattle.dl_words.specs.declared.words.Word.{Word}
 use Rattle.repository.specs.All.{head_place}
+use Rattle.datalad_cli.specs.Words.{place_by}
 
 -- The place of HEAD in a dataset's repository, where it isn't longer than places are.
 abbrev pub head_within : Names → Option Names
@@ -31,3 +35,31 @@ root_up (name ∷ above) g =
 -- The nearest root at or above a place.
 unfoldable pub root_at : Names → Ground → Option Names
 root_at place g = root_up (reverse place) g
+
+-- Where a command works: in the nearest dataset at or above a place; or in that whose root a word
+-- names, by where the word leads and its index.
+pub data Location : Type 0 where
+  Near : Names → Location
+  At : Option Names → ℕ → Location
+
+-- The location by the working directory and the word that may name a dataset.
+abbrev pub location_by : Names → Option Word → Location
+location_by cwd None = Near cwd
+location_by cwd (Some word) = At (place_by cwd word.text) word.index
+
+-- The root of the dataset in which a command works, if there is one.
+abbrev pub root_in : Location → Ground → Option Names
+root_in (Near place) g = root_at place g
+root_in (At None index) g = None
+root_in (At (Some place) index) g = if is_root g place then Some place else None
+
+-- The refusal where there is none.
+abbrev pub no_root : Location → Fault
+no_root (Near place) = NotADataset place
+no_root (At None index) = BadPath index
+no_root (At (Some place) index) = NotADataset place
+
+-- What a root is to a location, whatever stands: at or above the place, or the one that is named.
+abbrev pub IsRootOf : Location → Names → Type 0
+IsRootOf (Near place) root = IsAtOrAbove root place
+IsRootOf (At to index) root = to ≡ Some root

@@ -32,6 +32,12 @@ is_place names = list_all is_name names && nat_le (length (text_of names)) longe
 unfoldable pub may_be_made : Names → Bool
 may_be_made names = is_place names && not (has_name dlrepo names)
 
+-- The place to which a word leads from a working directory, if it is one.
+abbrev pub place_by : Names → List ℕ → Option Names
+place_by cwd [] = None
+place_by cwd (b ∷ word) =
+    if is_place (target cwd (b ∷ word)) then Some (target cwd (b ∷ word)) else None
+
 -- Where a word leads from a working directory, if a dataset may be made there.
 abbrev pub leads : Names → List ℕ → Option Names
 leads cwd [] = None

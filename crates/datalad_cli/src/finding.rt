@@ -1,11 +1,15 @@
-// The dataset in which a place lies.
+// The dataset in which a command works.
 ghost use Rattle.std.specs.Prelude.{◌≡◌, ◌++◌, ◌∷◌, [], ℕ, List, IfOk, IfSome, IsTrue, MatchOption, Some, None};
 ghost use Rattle.places.specs.All.{IsAtOrAbove};
 ghost use Rattle.acts.specs.All.{NoFault, Reads};
 ghost use Rattle.repository.specs.All.{repo_of};
-ghost use Rattle.faults.specs.declared.faults.Fault.TheVariants.{NotADataset};
-ghost use Rattle.datalad_cli.specs.Finding.{HasRoom, head_within, is_root, root_at};
+ghost use Rattle.faults.specs.declared.faults.Fault.TheVariants.{BadPath, NotADataset};
+ghost use Rattle.datalad_cli.specs.Finding.{At, HasRoom, IsRootOf, head_within, is_root, location_by, no_root, root_at};
+ghost use Rattle.datalad_cli.specs.Finding.{root_in};
+ghost use Rattle.datalad_cli.specs.Words.{place_by};
 
+use crate::words::place_by;
+use dl_words::Word;
 use faults::{Fault, Trouble};
 use file_store::{Files, Place};
 use std::alloc::{AllocError, Global};
@@ -74,15 +78,8 @@ pub(crate) fn repo_within(alloc: Global, root: &Place) -> Result<Place, AllocErr
     root.below(alloc, ".dlrepo")
 }
 
-/// The root of the dataset in which a place lies: the nearest place, at or above it, at whose `.dlrepo/HEAD` a file
-/// stands.
-///
-/// Refuses NotADataset of the place where there is none.
-pub(crate) fn find_root<F: Files>(
-    alloc: Global,
-    files: &mut F,
-    cwd: &Place,
-) -> Result<Place, Trouble>
+// The root of the dataset in which a place lies, refused where there is none.
+fn nearest_root<F: Files>(alloc: Global, files: &mut F, cwd: &Place) -> Result<Place, Trouble>
     ensures reads { Reads (λ fault. fault ≡ NotADataset cwd.now) F.tells (λ g root. root_at cwd.now g ≡ Some root)
         (λ g fault. (root_at cwd.now g ≡ None) × (fault ≡ NotADataset cwd.now)) (F.drive files.old)
         (F.drive files.new) result }
@@ -94,5 +91,56 @@ pub(crate) fn find_root<F: Files>(
     match root_from(alloc, files, start)? {
         Some(root) => Ok(root),
         None => Err(Trouble::Refused(Fault::NotADataset { place })),
+    }
+}
+
+/// The refusal of a word that leads to no place, or to none where a dataset may be made.
+pub(crate) fn bad_path(word: &Word) -> Fault
+    ensures { result ≡ BadPath word.now.index }
+{
+    Fault::BadPath { at: word.index }
+}
+
+// The root that a word names, refused where no dataset has it.
+fn named_root<F: Files>(
+    alloc: Global,
+    files: &mut F,
+    cwd: &Place,
+    word: &Word,
+) -> Result<Place, Trouble>
+    ensures reads { let at = At (place_by cwd.now word.now.text) word.now.index in
+        Reads (λ fault. fault ≡ no_root at) F.tells (λ g root. root_in at g ≡ Some root)
+        (λ g fault. (root_in at g ≡ None) × (fault ≡ no_root at)) (F.drive files.old) (F.drive files.new) result }
+    ensures named { IfOk result (λ root. place_by cwd.now word.now.text ≡ Some root) }
+    ensures room { IfOk result (λ root. HasRoom root) }
+{
+    let Some(place) = place_by(alloc, cwd, word.text.as_str())? else {
+        return Err(Trouble::Refused(bad_path(word)));
+    };
+    if is_root(alloc, files, &place)? {
+        return Ok(place);
+    }
+    Err(Trouble::Refused(Fault::NotADataset { place }))
+}
+
+/// The root of the dataset in which a command works: the one that a word names, or without a word the nearest place, at
+/// or above the working directory, at whose `.dlrepo/HEAD` a file stands.
+///
+/// Refuses BadPath of a word that leads to no place, and NotADataset where no dataset is there.
+pub(crate) fn find_root<F: Files>(
+    alloc: Global,
+    files: &mut F,
+    cwd: &Place,
+    dataset: &Option<Word>,
+) -> Result<Place, Trouble>
+    ensures reads { let at = location_by cwd.now dataset.now in
+        Reads (λ fault. fault ≡ no_root at) F.tells (λ g root. root_in at g ≡ Some root)
+        (λ g fault. (root_in at g ≡ None) × (fault ≡ no_root at)) (F.drive files.old) (F.drive files.new) result }
+    ensures above { IfOk result (λ root. IsRootOf (location_by cwd.now dataset.now) root) }
+    ensures room { IfOk result (λ root. HasRoom root) }
+{
+    match dataset {
+        None => nearest_root(alloc, files, cwd),
+        Some(word) => named_root(alloc, files, cwd, word),
     }
 }

@@ -5,21 +5,21 @@ ghost use Rattle.recursive_save.specs.All.{CreateKeepsSound, SaveIsComplete, Sav
 ghost use Rattle.recursive_save.specs.All.{StatusIsComplete, StatusIsOne};
 ghost use Rattle.history.specs.All.{LogIsComplete, LogIsOne};
 ghost use Rattle.dl_words.specs.All.{AskFor, AskOnce, EndsOnce, HaveMeaning};
-ghost use Rattle.faults.specs.declared.faults.Fault.TheVariants.{BadPath};
 ghost use Rattle.datalad_cli.specs.Answer.{call_of};
 ghost use Rattle.datalad_cli.specs.Answered.{Answered};
 ghost use Rattle.datalad_cli.specs.Commands.{CarriesOut, Create, Log, MayAnswer, MaySay, Save, Status, command_of};
 ghost use Rattle.datalad_cli.specs.Commands.{creates};
 ghost use Rattle.datalad_cli.specs.Ends.{telling_of, world_of};
+ghost use Rattle.datalad_cli.specs.Finding.{location_by};
 ghost use Rattle.datalad_cli.specs.Words.{leads, message_by, revision_by};
 
-use crate::finding::{find_root, repo_within};
+use crate::finding::{bad_path, find_root, repo_within};
 use crate::help::{help, version};
 use crate::reporting::{report, say_usage, starved};
 use crate::status::Status;
 use crate::words::{message_by, revision_by, root_of};
 use dl_words::{Word, Words, WordsErr, ends_once, have_meaning, is_built, one_meaning, read_words};
-use faults::{Fault, Line, Trouble};
+use faults::{Line, Trouble};
 use file_store::{Bytes, Files, Place, Sink};
 use history::{log, log_is_complete, log_is_one};
 use recursive_save::{
@@ -27,13 +27,6 @@ use recursive_save::{
     save_remains, status, status_is_complete, status_is_one,
 };
 use std::alloc::Global;
-
-// The refusal of a word that leads to no place where a dataset may be made.
-fn bad_path(path: &Word) -> Fault
-    ensures { result ≡ BadPath path.now.index }
-{
-    Fault::BadPath { at: path.index }
-}
 
 // The text of a command that gives none.
 fn no_text(alloc: Global) -> Bytes
@@ -68,58 +61,61 @@ fn create_at<F: Files>(
     }
 }
 
-// `save`, by the word that may give a message.
+// `save`, by the words that may name a dataset and give a message.
 fn save_at<F: Files>(
     alloc: Global,
     files: &mut F,
     cwd: &Place,
+    dataset: &Option<Word>,
     word: &Option<Word>,
     moment: u64,
     lines: &mut Vec<Line>,
 ) -> Result<Bytes, Trouble>
     requires { lines.old.items ≡ [] }
-    ensures says { MaySay (Save cwd.now (message_by word.now) moment) lines.new.items result }
-    ensures acts { CarriesOut F.tells (Save cwd.now (message_by word.now) moment) lines.old.items lines.new.items
-        (F.drive files.old) (F.drive files.new) result }
+    ensures says { MaySay (Save (location_by cwd.now dataset.now) (message_by word.now) moment) lines.new.items result }
+    ensures acts { CarriesOut F.tells (Save (location_by cwd.now dataset.now) (message_by word.now) moment)
+        lines.old.items lines.new.items (F.drive files.old) (F.drive files.new) result }
 {
     let message = message_by(alloc, word)?;
-    let root = find_root(alloc, files, cwd)?;
+    let root = find_root(alloc, files, cwd, dataset)?;
     let wish = SaveWish { message, moment };
     save(alloc, files, &root, &wish, lines)?;
     Ok(no_text(alloc))
 }
 
-// `status`.
+// `status`, by the word that may name a dataset.
 fn status_at<F: Files>(
     alloc: Global,
     files: &mut F,
     cwd: &Place,
+    dataset: &Option<Word>,
     lines: &mut Vec<Line>,
 ) -> Result<Bytes, Trouble>
     requires { lines.old.items ≡ [] }
-    ensures says { MaySay (Status cwd.now) lines.new.items result }
-    ensures acts { CarriesOut F.tells (Status cwd.now) lines.old.items lines.new.items (F.drive files.old)
-        (F.drive files.new) result }
+    ensures says { MaySay (Status (location_by cwd.now dataset.now)) lines.new.items result }
+    ensures acts { CarriesOut F.tells (Status (location_by cwd.now dataset.now)) lines.old.items lines.new.items
+        (F.drive files.old) (F.drive files.new) result }
 {
-    let root = find_root(alloc, files, cwd)?;
+    let root = find_root(alloc, files, cwd, dataset)?;
     let text = status(alloc, files, &root)?;
     Ok(Bytes::new(text))
 }
 
-// `log`, by the word that may give a revision.
+// `log`, by the words that may name a dataset and give a revision.
 fn log_at<F: Files>(
     alloc: Global,
     files: &mut F,
     cwd: &Place,
+    dataset: &Option<Word>,
     word: &Option<Word>,
     lines: &mut Vec<Line>,
 ) -> Result<Bytes, Trouble>
     requires { lines.old.items ≡ [] }
-    ensures says { MaySay (Log cwd.now (revision_by word.now)) lines.new.items result }
-    ensures acts { CarriesOut F.tells (Log cwd.now (revision_by word.now)) lines.old.items lines.new.items
-        (F.drive files.old) (F.drive files.new) result }
+    ensures says { MaySay (Log (location_by cwd.now dataset.now) (revision_by word.now)) lines.new.items result }
+    ensures acts { CarriesOut F.tells (Log (location_by cwd.now dataset.now) (revision_by word.now)) lines.old.items
+        lines.new.items (F.drive files.old) (F.drive files.new) result }
 {
-    let root = find_root(alloc, files, cwd)?;
+    let root = find_root(alloc, files, cwd, dataset)?;
     let repo = repo_within(alloc, &root)?;
     let text = log(alloc, files, &repo, revision_by(word))?;
     Ok(Bytes::new(text))
@@ -144,9 +140,13 @@ fn act<F: Files>(
         Words::Create { dataset: _, path } => create_at(
             alloc, files, cwd, path, moment, fresh, lines,
         ),
-        Words::Save { message, .. } => save_at(alloc, files, cwd, message, moment, lines),
-        Words::Status { .. } => status_at(alloc, files, cwd, lines),
-        Words::Log { revision, .. } => log_at(alloc, files, cwd, revision, lines),
+        Words::Save {
+            dataset,
+            message,
+            ..
+        } => { save_at(alloc, files, cwd, dataset, message, moment, lines) }
+        Words::Status { dataset, .. } => status_at(alloc, files, cwd, dataset, lines),
+        Words::Log { dataset, revision } => log_at(alloc, files, cwd, dataset, revision, lines),
         Words::Version => Ok(version(alloc)?),
         _ => Ok(help(alloc)?),
     }

@@ -2,7 +2,7 @@
 ghost use Rattle.std.specs.Prelude.{◌≡◌, IfOk, MatchResult};
 ghost use Rattle.places.specs.All.{has_name};
 ghost use Rattle.repository.specs.All.{dlrepo};
-ghost use Rattle.datalad_cli.specs.Words.{default_message, leads, message_by, message_of, revision_by};
+ghost use Rattle.datalad_cli.specs.Words.{default_message, leads, message_by, message_of, place_by, revision_by};
 
 use dl_words::Word;
 use file_store::{Bytes, Place, PlaceErr};
@@ -57,6 +57,17 @@ fn is_in_repository(place: &Place) -> bool
     ensures { result ≡ has_name dlrepo place.now }
 {
     place.has_name(".dlrepo")
+}
+
+/// The place to which a word leads from a working directory. None where it is no place.
+pub(crate) fn place_by(alloc: Global, cwd: &Place, word: &str) -> Result<Option<Place>, AllocError>
+    ensures { MatchResult result (λ place. place_by cwd.now word.now ≡ place) (λ _. Unit {0}) }
+{
+    match Place::from_word(alloc, cwd, word) {
+        Err(PlaceErr::NoMemory) => Err(AllocError),
+        Err(PlaceErr::Bad) => Ok(None),
+        Ok(place) => Ok(Some(place)),
+    }
 }
 
 /// Where a word leads from a working directory. None where a dataset can't be made there: it is no place, or a place

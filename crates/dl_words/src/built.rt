@@ -11,22 +11,14 @@ pub fn is_built(words: &Words) -> bool
     match words {
         Words::Create { dataset, .. } => dataset.is_none(),
         Words::Save {
-            dataset,
             message_file,
             recursive,
             to_git,
             paths,
             ..
-        } => {
-            dataset.is_none()
-                && message_file.is_none()
-                && !*recursive
-                && *to_git
-                && paths.as_slice().is_empty()
-        }
-        Words::Status { dataset, recursive } => dataset.is_none() && !*recursive,
-        Words::Log { dataset, .. } => dataset.is_none(),
-        Words::Help | Words::Version => true,
+        } => { message_file.is_none() && !*recursive && *to_git && paths.as_slice().is_empty() }
+        Words::Status { recursive, .. } => !*recursive,
+        Words::Log { .. } | Words::Help | Words::Version => true,
         _ => false,
     }
 }

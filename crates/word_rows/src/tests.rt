@@ -126,7 +126,7 @@ const OF_RUNS_AND_SETTINGS: [(&str, &str); 38] = [
 ];
 
 // Whether what the words ask for is built.
-const BUILT: [(&str, bool); 24] = [
+const BUILT: [(&str, bool); 25] = [
     ("create^x", true),
     ("create^-d^a^x", false),
     ("save^--to-git", true),
@@ -135,15 +135,16 @@ const BUILT: [(&str, bool); 24] = [
     ("save^-m^a^--to-git^x", false),
     ("save^--to-git^-F^f", false),
     ("save^--to-git^-r", false),
-    ("save^--to-git^-d^x", false),
+    ("save^--to-git^-d^x", true),
     ("log", true),
     ("log^a", true),
-    ("log^-d^x", false),
+    ("log^-d^x", true),
     ("--help", true),
     ("--version", true),
     ("status", true),
     ("status^-r", false),
-    ("status^-d^x", false),
+    ("status^-d^x", true),
+    ("status^-d^x^-r", false),
     ("clone^a^b", false),
     ("get^a", false),
     ("drop^a", false),

@@ -40,7 +40,8 @@ fn trees_are_read(rt: HostRuntime) {
     let read = read_tree(alloc, &mut files, &repo, &id(&rt, TREE));
     let tree = read.expect(&rt, "a tree");
     is_size(&rt, tree.entries.len(), 1);
-    holds(&rt, tree.entries[0].name.as_str() == "f", "f");
+    let entry = tree.entries.first().expect(&rt, "an entry");
+    holds(&rt, entry.name.as_str() == "f", "f");
 }
 
 #[test]

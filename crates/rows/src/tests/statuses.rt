@@ -78,3 +78,58 @@ fn a_status_is_refused(rt: HostRuntime) {
     let said = ("", "datalad: neither file nor directory: n\n");
     says_status(&rt, alloc, &mut files, 1, said);
 }
+
+// Calls from the working directory `/w` that name a dataset.
+const NAMED: [Row<'static>; 7] = [
+    Row {
+        words: "status -d ds",
+        code: 0,
+        out: CLEAN,
+        err: "",
+    },
+    Row {
+        words: "status --dataset=/w/x/../ds/",
+        code: 0,
+        out: CLEAN,
+        err: "",
+    },
+    Row {
+        words: "log -dds HEAD~1",
+        code: 0,
+        out: "6149941c1fcb7a565aced3bb19722e854a8a15b3 [DATALAD] new dataset\n",
+        err: "",
+    },
+    Row {
+        words: "save --to-git -d ds",
+        code: 0,
+        out: "save(notneeded): . (dataset)\n",
+        err: "",
+    },
+    Row {
+        words: "status -d ds/d",
+        code: 1,
+        out: "",
+        err: "datalad: no dataset at /w/ds/d\n",
+    },
+    Row {
+        words: "save --to-git -d .",
+        code: 1,
+        out: "",
+        err: "datalad: no dataset at /w\n",
+    },
+    Row {
+        words: "log --dataset=",
+        code: 1,
+        out: "",
+        err: "datalad: bad path in word 1\n",
+    },
+];
+
+#[test]
+fn datasets_are_named(rt: HostRuntime) {
+    let alloc = rt.alloc();
+    let mut files = saved(&rt, alloc);
+    for row in &NAMED {
+        says_in(&rt, alloc, &mut files, "/w", row);
+    }
+}

@@ -1,6 +1,6 @@
 use Rattle.acts.proofs.Reading.{read_exits, read_err}
 use Rattle.datalad_cli.proofs.Upwards.{finds, finds_none}
-use Rattle.datalad_cli.proofs.finding.find_root.Goals as goal
+use Rattle.datalad_cli.proofs.finding.nearest_root.Goals as goal
 
 pub returns-in_err-root-clause-reads : goal.returns-in_err-root-clause-reads
 returns-in_err-root-clause-reads g c = read_exits c.from_residual-in_err-root.ensures.1 (read_err (λ f h. absurd h) (λ f h. absurd h) c.in_err-root.ensures.reads)
