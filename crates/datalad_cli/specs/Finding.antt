@@ -1,6 +1,6 @@
 -- The root of the dataset in which a command works.
-use Rattle.std.specs.Prelude.{◌≡◌, ◌≤◌, ℕ, Bool, false, [], ◌∷◌, length, nat_lt, Option, Some, None, codes}
-use Rattle.std.specs.Prelude.{if◌then◌else◌, reverse}
+use Rattle.std.specs.Prelude.{◌≡◌, ◌≤◌, ℕ, Bool, false, [], ◌∷◌, length, nat_lt, Option, Some}
+use Rattle.std.specs.Prelude.{None, codes, if◌then◌else◌, reverse}
 use Rattle.places.specs.All.{Names, Ground, IsAtOrAbove, text_of, joined, stands, longest}
 use Rattle.faults.specs.declared.faults.Fault.{Fault}
 use Rattle.faults.specs.declared.faults.Fault.TheVariants.{BadPath, NotADataset}
