@@ -89,7 +89,8 @@ LogComes word root g end = LogEnds (repo_of root) word g end
 
 -- An act of a command that works in a dataset, by the dataset's root: refused where there is
 -- none.
-abbrev pub IsActIn : Location → (Names → Act (List ℕ) → Type 0) → Option Names → Act (List ℕ) → Type 0
+abbrev pub IsActIn : Location → (Names → Act (List ℕ) → Type 0) → Option Names → Act (List ℕ)
+    → Type 0
 IsActIn at IsIts None act = act ≡ still (Refuses (no_root at))
 IsActIn at IsIts (Some root) act = IsIts root act
 
