@@ -1,4 +1,6 @@
 // Ids, trees and commits beside git's own (`git hash-object`, `git mktree`, `git commit-tree`).
+ghost use Rattle.std.specs.Prelude.{◌≡◌};
+
 use super::common::{are_bytes, holds, holds_at, is_text, text};
 use git_objects::{
     Commit, Id, Mode, ObjErr, ObjKind, Person, Tree, TreeEntry, are_entries, blob_id, is_extra,
@@ -17,8 +19,10 @@ fn id(rt: &impl Abort, hex: &[u8]) -> Id {
     Id::from_hex(hex).expect(rt, "an id")
 }
 
-fn bytes(rt: &impl Abort, alloc: Global, value: &[u8]) -> Bytes {
-    Bytes::new(value.to_vec(alloc).expect(rt, "memory"))
+fn bytes(rt: &impl Abort, alloc: Global, value: &[u8]) -> Bytes
+    ensures { result ≡ value.now }
+{
+    Bytes::new(Vec::from_slice(alloc, value).expect(rt, "memory"))
 }
 
 fn is_id(rt: &impl Abort, got: Id, hex: &[u8]) {
