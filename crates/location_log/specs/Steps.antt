@@ -1,6 +1,6 @@
 -- What a text shows piece by piece, and how lines are put in order.
 use Rattle.std.specs.Prelude.{◌≡◌, ◌==◌, ℕ, Bool, false, List, [], ◌∷◌, ◌++◌, Option, Some, None, cond}
-use Rattle.std.specs.Prelude.{◌⊎◌, bytes_eq, true}
+use Rattle.std.specs.Prelude.{◌<◌, ◌⊎◌, bytes_eq, length, slice_index, true}
 use Rattle.std.specs.declared.cmp.Ordering.{Ordering}
 use Rattle.std.specs.Cmp.Lexicographic.{slice_cmp}
 use Rattle.std.specs.List.{list_any}
@@ -12,6 +12,16 @@ use Rattle.location_log.specs.Texts.{IsLineText, IsPassed, lines_of}
 -- No such byte stands in a text.
 abbrev pub Lacks : ℕ → List ℕ → Type 0
 Lacks byte text = list_any (λ b. b == byte) text ≡ false
+
+-- No such byte stands before this place.
+abbrev pub NotBelow : ℕ → List ℕ → ℕ → Type 0
+NotBelow byte text end = (k : ℕ) → k < end → slice_index text k ≡ byte → ⊥
+
+-- The first such byte stands here.
+pub record IsFirstAt (byte : ℕ) (text : List ℕ) (at : ℕ) : Type 0 where
+  pub within : at < length text
+  pub here : slice_index text at ≡ byte
+  pub before : NotBelow byte text at
 
 -- A text is cut at the first such byte.
 pub record IsCut (byte : ℕ) (text front back : List ℕ) : Type 0 where

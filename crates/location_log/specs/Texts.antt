@@ -1,8 +1,8 @@
 -- The grammar: which text is that of a time, of a line, and of a log.
-use Rattle.std.specs.Prelude.{◌≡◌, ℕ, ◌+◌, ◌-◌, ◌*◌, ◌^◌, ◌<◌, ◌≤◌, Bool, true, ◌==◌, ◌⊎◌, List}
-use Rattle.std.specs.Prelude.{[], ◌∷◌, ◌++◌, Some, codes, decimal, length, not}
+use Rattle.std.specs.Prelude.{◌≡◌, ℕ, ◌+◌, ◌-◌, ◌*◌, ◌^◌, ◌<◌, ◌≤◌, Bool, true, ◌==◌, ◌⊎◌}
+use Rattle.std.specs.Prelude.{List, [], ◌∷◌, ◌++◌, Some, codes, decimal, length}
 use Rattle.std.specs.Char.{is_ascii_digit}
-use Rattle.std.specs.List.{AllByRecursion, AllZip, filter, list_all, slice_split}
+use Rattle.std.specs.List.{AllByRecursion, AllZip, list_all, slice_split}
 use Rattle.std.specs.Str.Parse.{digits_value}
 use Rattle.config_text.specs.All.{uuid_of}
 use Rattle.location_log.specs.declared.lines.Claim.{Claim}
@@ -54,7 +54,9 @@ lines_of text = slice_split is_newline text
 
 -- Those of them that say something.
 abbrev pub filled : List (List ℕ) → List (List ℕ)
-filled texts = filter (λ text. not (length text == 0)) texts
+filled [] = []
+filled ([] ∷ texts) = filled texts
+filled ((b ∷ text) ∷ texts) = (b ∷ text) ∷ filled texts
 
 -- A log: its lines, but for empty ones, are texts of these.
 abbrev pub IsLogText : List PlainLine → List ℕ → Type 0

@@ -2,6 +2,7 @@
 ghost use Rattle.std.specs.Prelude.{◌≡◌, ◌↔◌, IsTrue, MatchOption};
 ghost use Rattle.location_log.specs.Counting.{Counts, HasNone, IsPresent};
 ghost use Rattle.location_log.specs.Steps.{better_of, line_cmp, rank_cmp};
+ghost use Rattle.location_log.specs.declared.lines.Claim.TheVariants.{Present};
 
 use crate::lines::{Claim, LogLine};
 use std::cmp::Ordering;
@@ -46,12 +47,21 @@ pub(crate) fn counting(lines: &[LogLine], uuid: &Uuid) -> Option<LogLine>
     found
 }
 
+fn is_present(claim: Claim) -> bool
+    ensures { IsTrue result ↔ (claim ≡ Present) }
+{
+    match claim {
+        Claim::Present => true,
+        Claim::Absent | Claim::Dead => false,
+    }
+}
+
 /// Whether a repository has the content, as the line says that counts for it. This takes no memory.
 pub fn present(lines: &[LogLine], uuid: &Uuid) -> bool
     ensures { IsTrue result ↔ IsPresent lines.now uuid.now }
 {
     match counting(lines, uuid) {
-        Some(line) => line.claim() == Claim::Present,
+        Some(line) => is_present(line.claim()),
         None => false,
     }
 }

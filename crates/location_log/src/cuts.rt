@@ -1,11 +1,11 @@
 // Texts that are cut at a byte.
-ghost use Rattle.std.specs.Prelude.{◌≡◌, ◌==◌, ◌∷◌, MatchOption, option_map};
-ghost use Rattle.std.specs.List.{position};
-ghost use Rattle.location_log.specs.Steps.{IsCut, Lacks, lines_left};
+ghost use Rattle.std.specs.Prelude.{◌≡◌, ◌∷◌, length, MatchOption, option_map};
+ghost use Rattle.location_log.specs.Steps.{IsCut, IsFirstAt, Lacks, NotBelow, lines_left};
 ghost use Rattle.location_log.specs.Texts.{lines_of};
 
 fn first_place(text: &[u8], byte: u8) -> Option<usize>
-    ensures { result ≡ position (λ b. b == byte) text.now }
+    ensures { MatchOption result (NotBelow byte text.now (length text.now))
+        (IsFirstAt byte text.now) }
 {
     text.iter().position(|b| *b == byte)
 }

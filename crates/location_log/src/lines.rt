@@ -1,5 +1,6 @@
 // A line of a location log.
 ghost use Rattle.std.specs.Prelude.{◌≡◌, ◌<◌};
+ghost use Rattle.config_text.specs.All.{IsUuid};
 ghost use Rattle.location_log.specs.Plain.{IsLogLine};
 
 use std::marker::Model;
@@ -77,17 +78,25 @@ impl Model for LogLine {
     }) };
 }
 
+// The bytes of a UUID.
+fn sixteen(bytes: [u8; 16]) -> [u8; 16]
+    ensures value { result ≡ bytes }
+    ensures stored { IsUuid result }
+{
+    bytes
+}
+
 impl LogLine {
-    pub(crate) fn new(secs: u64, nanos: u32, claim: Claim, bytes: [u8; 16]) -> LogLine
+    pub(crate) fn new(secs: u64, nanos: u32, claim: Claim, uuid: &Uuid) -> LogLine
         requires { nanos < 1000000000 }
         ensures { result
-            ≡ record { secs = secs; nanos = nanos; claim = claim; uuid = bytes } }
+            ≡ record { secs = secs; nanos = nanos; claim = claim; uuid = uuid.now } }
     {
         LogLine {
             secs,
             nanos,
             claim,
-            uuid: Uuid::from_bytes(bytes),
+            uuid: Uuid::from_bytes(sixteen(*uuid.as_bytes())),
         }
     }
 

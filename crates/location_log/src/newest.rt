@@ -1,5 +1,5 @@
 // The lines that count, one for each repository.
-ghost use Rattle.std.specs.Prelude.{◌≡◌, IfOk};
+ghost use Rattle.std.specs.Prelude.{◌≡◌, ◌∷◌, if◌then◌else◌, IfOk};
 ghost use Rattle.std.specs.List.Sorted.{IsPermutation, IsSorted};
 ghost use Rattle.location_log.specs.Newest.{AreNewest};
 ghost use Rattle.location_log.specs.Steps.{lasts, line_cmp};
@@ -15,9 +15,15 @@ fn sort_lines(lines: &mut Vec<LogLine>)
     lines.sort_unstable_by(|line, other| by_line(line, other));
 }
 
-// Whether the line at a place is the last of its neighbours of one repository.
-fn is_last(lines: &[LogLine], at: usize) -> bool {
-    at + 1 == lines.len() || lines[at].uuid() != lines[at + 1].uuid()
+// Whether a line is the last of its neighbours of one repository, before these others.
+fn is_last(line: &LogLine, others: &[LogLine]) -> bool
+    ensures { lasts (line.now ∷ others.now)
+        ≡ (if result then line.now ∷ lasts others.now else lasts others.now) }
+{
+    match others.first() {
+        Some(next) => line.uuid() != next.uuid(),
+        None => true,
+    }
 }
 
 // Of neighbours of one repository the last.
@@ -25,10 +31,12 @@ fn lasts(alloc: Global, lines: &[LogLine]) -> Result<Vec<LogLine>, AllocError>
     ensures { IfOk result (λ kept. kept.items ≡ lasts lines.now) }
 {
     let mut kept = Vec::new(alloc);
-    for (at, line) in lines.iter().enumerate() {
-        if is_last(lines, at) {
+    let mut left = lines;
+    while let Some((line, others)) = left.split_first() {
+        if is_last(line, others) {
             kept.push(*line)?;
         }
+        left = others;
     }
     Ok(kept)
 }

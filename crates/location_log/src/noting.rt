@@ -50,7 +50,7 @@ pub fn note(
 {
     let secs = noted_time(lines, uuid, moment)?;
     let mut all = Vec::new(alloc);
-    all.push(LogLine::new(secs, 0, claimed(present), *uuid.as_bytes()))?;
+    all.push(LogLine::new(secs, 0, claimed(present), uuid))?;
     all.extend_from_slice(lines)?;
     Ok(newest(alloc, all)?)
 }

@@ -1,5 +1,5 @@
 // Printing a log.
-ghost use Rattle.std.specs.Prelude.{◌≡◌, ◌++◌, ◌<◌, MatchResult, OnOk};
+ghost use Rattle.std.specs.Prelude.{◌≡◌, ◌++◌, ◌∷◌, [], ◌<◌, MatchResult, OnOk, string_bytes};
 ghost use Rattle.std.specs.List.{AllByRecursion};
 ghost use Rattle.location_log.specs.Plain.{IsLogLine};
 ghost use Rattle.location_log.specs.Printing.{line_text, log_text, time_text};

@@ -1,5 +1,6 @@
 // Reading a log, line by line.
-ghost use Rattle.std.specs.Prelude.{◌≡◌, ◌++◌, ◌∷◌, [], true, false, Some, MatchOption, MatchResult, IfOk};
+ghost use Rattle.std.specs.Prelude.{◌≡◌, ◌++◌, ◌∷◌, [], true, false, ℕ, List, Some, codes, MatchOption};
+ghost use Rattle.std.specs.Prelude.{MatchResult, IfOk};
 ghost use Rattle.config_text.specs.All.{uuid_of};
 ghost use Rattle.location_log.specs.Plain.{PlainLine};
 ghost use Rattle.location_log.specs.Reading.{RefusesLog};
@@ -29,7 +30,16 @@ fn read_claim(text: &[u8]) -> Option<Claim>
     }
 }
 
+// A time without the letter behind it.
+fn without_letter(stamp: &[u8]) -> Option<&[u8]>
+    ensures { MatchOption result ((time : List ℕ) → stamp.now ≡ time ++ codes "s" → ⊥)
+        (λ time. stamp.now ≡ time.now ++ codes "s") }
+{
+    stamp.strip_suffix(b"s")
+}
+
 // The UUID that 36 characters are.
+#[tactic(auto, unfolding(config_text::specs::Lookups::uuid_of))]
 fn read_uuid(text: &[u8]) -> Option<Uuid>
     ensures { result ≡ uuid_of text.now }
 {
@@ -45,11 +55,11 @@ fn read_line(text: &[u8]) -> Option<LogLine>
 {
     let (stamp, rest) = cut_at(text, b' ')?;
     let (status, uuid) = cut_at(rest, b' ')?;
-    let time = stamp.strip_suffix(b"s")?;
+    let time = without_letter(stamp)?;
     let (secs, nanos) = read_time(time)?;
     let claim = read_claim(status)?;
     let uuid = read_uuid(uuid)?;
-    Some(LogLine::new(secs, nanos, claim, *uuid.as_bytes()))
+    Some(LogLine::new(secs, nanos, claim, &uuid))
 }
 
 // Takes one more line; false where it is bad.

@@ -1,7 +1,8 @@
 // Reading a time.
-ghost use Rattle.std.specs.Prelude.{◌≡◌, ℕ, ◌<◌, ◌^◌, decimal, MatchOption};
+ghost use Rattle.std.specs.Prelude.{◌≡◌, true, ℕ, ◌<◌, ◌^◌, decimal, MatchOption};
 ghost use Rattle.std.specs.Char.{is_ascii_digit};
 ghost use Rattle.std.specs.List.{list_all};
+ghost use Rattle.config_text.specs.All.{is_number};
 ghost use Rattle.location_log.specs.Texts.{IsFraction, IsTimeText};
 
 use crate::cuts::cut_at;
@@ -13,16 +14,33 @@ fn are_digits(text: &[u8]) -> bool
     text.iter().all(|byte| byte.is_ascii_digit())
 }
 
-// The number of these bytes, where they are a number of 64 bits with no zero in front.
+// The text of digits.
+fn digits_text(digits: &[u8]) -> &str
+    requires { list_all is_ascii_digit digits.now ≡ true }
+    ensures { result.now ≡ digits.now }
+{
+    str::from_utf8(digits).unwrap()
+}
+
+#[tactic(auto, unfolding(config_text::specs::Settings::is_number))]
+fn is_number(text: &[u8]) -> bool
+    ensures { result ≡ is_number text.now }
+{
+    if text.is_empty() || !are_digits(text) {
+        return false;
+    }
+    text.len() == 1 || text[0] != b'0'
+}
+
+// The number of these bytes, where they are one of 64 bits.
 fn read_number(bytes: &[u8]) -> Option<u64>
     ensures { MatchOption result ((n : ℕ) → n < 2 ^ 64 → bytes.now ≡ decimal n → ⊥)
         (λ n. (n < 2 ^ 64) × (bytes.now ≡ decimal n)) }
 {
-    if !are_digits(bytes) || (bytes.len() > 1 && bytes[0] == b'0') {
+    if !is_number(bytes) {
         return None;
     }
-    let text = str::from_utf8(bytes).ok()?;
-    text.parse().ok()
+    digits_text(bytes).parse().ok()
 }
 
 // The nanoseconds of a fraction of a second.
@@ -34,8 +52,9 @@ fn read_fraction(digits: &[u8]) -> Option<u32>
     if len > 9 || !are_digits(digits) {
         return None;
     }
-    let text = str::from_utf8(digits).ok()?;
-    let number: u32 = text.parse().ok()?;
+    let Ok(number) = digits_text(digits).parse::<u32>() else {
+        return None;
+    };
     Some(number * 10u32.pow(9 - len as u32))
 }
 

@@ -1,0 +1,9 @@
+pub mod Best
+pub mod CutTexts
+pub mod Logs
+pub mod Merging
+pub mod Noted
+pub mod Orders
+pub mod Readings
+pub mod Sorted
+pub mod TimeTexts
