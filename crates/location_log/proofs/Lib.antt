@@ -4,6 +4,7 @@ pub mod Logs
 pub mod Merging
 pub mod Noted
 pub mod Orders
+pub mod Printed
 pub mod Readings
 pub mod Sorted
 pub mod TimeTexts

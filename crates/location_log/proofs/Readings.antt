@@ -1,5 +1,6 @@
 -- Texts of lines.
 use Rattle.std.proofs.Common.{◌≡◌, ℕ, ◌+◌, ◌<◌, ◌≤◌, true, false, List, [], ◌∷◌, ◌++◌, length, get_or, Option, Some, None, codes, inl, inr, refl, sym, ap, ◌∙◌, subst, arith, append_assoc, length-append}
+use Rattle.std.proofs.lemmas.Bool.{eqb-false}
 use Rattle.std.proofs.lemmas.List.{append_cancel_right}
 use Rattle.config_text.specs.All.{uuid_of}
 use Rattle.location_log.specs.declared.lines.Claim.{Claim}
@@ -68,24 +69,18 @@ apart xs ys e p q = sym p ∙ (ap (λ (z : List ℕ). get_or z 0 0) e ∙ q)
 status_same : (a b : Claim) → status_text a ≡ status_text b → a ≡ b
 status_same Present Present e = refl
 status_same Present Absent e =
-    let same : 49 ≡ 48 = apart (status_text Present) (status_text Absent) e refl refl in
-    absurd (omega arith)
+    absurd (eqb-false 49 48 refl (apart (status_text Present) (status_text Absent) e refl refl))
 status_same Present Dead e =
-    let same : 49 ≡ 88 = apart (status_text Present) (status_text Dead) e refl refl in
-    absurd (omega arith)
+    absurd (eqb-false 49 88 refl (apart (status_text Present) (status_text Dead) e refl refl))
 status_same Absent Present e =
-    let same : 48 ≡ 49 = apart (status_text Absent) (status_text Present) e refl refl in
-    absurd (omega arith)
+    absurd (eqb-false 48 49 refl (apart (status_text Absent) (status_text Present) e refl refl))
 status_same Absent Absent e = refl
 status_same Absent Dead e =
-    let same : 48 ≡ 88 = apart (status_text Absent) (status_text Dead) e refl refl in
-    absurd (omega arith)
+    absurd (eqb-false 48 88 refl (apart (status_text Absent) (status_text Dead) e refl refl))
 status_same Dead Present e =
-    let same : 88 ≡ 49 = apart (status_text Dead) (status_text Present) e refl refl in
-    absurd (omega arith)
+    absurd (eqb-false 88 49 refl (apart (status_text Dead) (status_text Present) e refl refl))
 status_same Dead Absent e =
-    let same : 88 ≡ 48 = apart (status_text Dead) (status_text Absent) e refl refl in
-    absurd (omega arith)
+    absurd (eqb-false 88 48 refl (apart (status_text Dead) (status_text Absent) e refl refl))
 status_same Dead Dead e = refl
 
 -- a text is of one line at most

@@ -1,4 +1,4 @@
-use Rattle.std.proofs.Common.{Result, Ok, Err}
+use Rattle.std.proofs.Common.{Result, Ok, Err, refl}
 use Rattle.std.specs.Prelude.{IsOk, IsUtf8, MatchResult}
 use Rattle.location_log.proofs.TimeTexts.{digits_utf8}
 use Rattle.location_log.proofs.times.digits_text.Goals as goal
