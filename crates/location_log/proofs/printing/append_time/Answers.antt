@@ -1,6 +1,6 @@
 use Rattle.std.proofs.Common.{◌≡◌, ℕ, ◌-◌, ◌^◌, false, List, [], ◌∷◌, ◌++◌, length, replicate, decimal, string_bytes, refl, sym, ap, ◌∙◌, arith}
 use Rattle.std.specs.Prelude.{◌==◌}
-use Rattle.std.specs.Fmt.{format_spec, padded_integral, styled_decimal}
+use Rattle.std.specs.Fmt.{char_count, format_spec, padded_integral, styled_decimal}
 use Rattle.std.proofs.lemmas.Bool.{cond-false, ne_eqb}
 use Rattle.std.proofs.lemmas.List.{append-nil}
 use Rattle.std.proofs.lemmas.Result.{on_ok_weaker}
@@ -11,7 +11,7 @@ short : (n : ℕ) → 9 - length (decimal n) - 0 - 0 ≡ 9 - length (decimal n)
 short n = omega arith
 
 styled_nine : (n : ℕ) → styled_decimal (format_spec 32 0 4 9 (2 ^ 64 - 1)) n ≡ nine_digits n
-unfolding padded_integral
+unfolding padded_integral char_count
 styled_nine n =
     ap (λ (k : ℕ). replicate k 48 ++ (decimal n ++ [])) (short n)
     ∙ ap (λ (z : List ℕ). replicate (9 - length (decimal n)) 48 ++ z) (append-nil (decimal n))
