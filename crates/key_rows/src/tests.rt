@@ -2,8 +2,8 @@
 mod logs;
 
 use annex_keys::{
-    Backend, KeyErr, from_text, hash_dir, key_of, matches, pointer_text, read_pointer, reread_key, reread_pointer, rewrite_key,
-    to_text,
+    Backend, KeyErr, from_text, hash_dir, key_of, matches, pointer_text, read_pointer, reread_key,
+    reread_pointer, rewrite_key, to_text,
 };
 use std::test::Fail;
 

@@ -48,7 +48,7 @@ so_far_line : (bytes : List ℕ) (count : ℕ) (line : List ℕ) (rest : List (L
     → Takes line old new true → AllZip IsLineText new (filled (s.before ++ line ∷ [])) × IsPassed line
 so_far_line bytes count line rest old new s (inl t) = (
   subst (λ (z : List PlainLine). AllZip IsLineText z (filled (s.before ++ line ∷ []))) (sym t.1)
-  (subst (λ (z : List (List ℕ)). AllZip IsLineText old z) (sym same) s.taken),
+      (subst (λ (z : List (List ℕ)). AllZip IsLineText old z) (sym same) s.taken),
   inl t.0,
 )
   where
@@ -56,7 +56,7 @@ so_far_line bytes count line rest old new s (inl t) = (
     same = filled_push s.before line ∙ (ap (λ (z : List ℕ). filled s.before ++ filled (z ∷ [])) t.0 ∙ append-nil (filled s.before))
 so_far_line bytes count line rest old new s (inr t) = (
   subst (λ (z : List PlainLine). AllZip IsLineText z (filled (s.before ++ line ∷ []))) (sym t.2)
-  (subst (λ (z : List (List ℕ)). AllZip IsLineText (old ++ t.0 ∷ []) z) (sym (filled_push s.before line)) (more line t.1)),
+      (subst (λ (z : List (List ℕ)). AllZip IsLineText (old ++ t.0 ∷ []) z) (sym (filled_push s.before line)) (more line t.1)),
   inr (t.0, t.1),
 )
   where

@@ -42,8 +42,7 @@ pub noted : NotesCount
 noted = record {
   present = λ lines uuid here moment noted out n m.
       let best = noted_best lines uuid here moment noted n in
-      let same : (l : PlainLine) → BestOf out uuid l ↔ BestOf (noted ∷ lines) uuid l = λ l. best_out (noted ∷ lines) out uuid l (best_lines (noted ∷ lines) out m) in
-      (
+      let same : (l : PlainLine) → BestOf out uuid l ↔ BestOf (noted ∷ lines) uuid l = λ l. best_out (noted ∷ lines) out uuid l (best_lines (noted ∷ lines) out m) in (
         λ p.
             let is : p.line ≡ noted = best_once (noted ∷ lines) uuid p.line noted ((same p.line).0 (best_of out uuid p.line p.counts)) best in
             present_claim here (sym n.claim ∙ (ap (λ (z : PlainLine). z.claim) (sym is) ∙ p.says)),
@@ -55,8 +54,7 @@ noted = record {
       );
   others = λ lines uuid here moment noted out n m other line apart.
       let same : BestOf out other line ↔ BestOf (noted ∷ lines) other line = best_out (noted ∷ lines) out other line (best_lines (noted ∷ lines) out m) in
-      let else_ : noted.uuid ≡ other → ⊥ = λ e. apart (sym e ∙ n.own) in
-      (
+      let else_ : noted.uuid ≡ other → ⊥ = λ e. apart (sym e ∙ n.own) in (
         λ c. counts_of lines other line (less_other noted lines other line else_ (same.0 (best_of out other line c))),
         λ c. counts_of out other line (same.1 (more_other noted lines other line else_ (best_of lines other line c))),
       );

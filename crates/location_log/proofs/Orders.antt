@@ -69,10 +69,13 @@ beats_less a b (inr h) =
 pub less_beats : (a b : PlainLine) → rank_cmp b a ≡ Less → Beats a b
 less_beats a b h = elim (then_less (nat_cmp b.secs a.secs) (ordering_then (nat_cmp b.nanos a.nanos) (nat_cmp (weight b.claim) (weight a.claim))) h) [
   | inl l ↦ inl (less_is b.secs a.secs l)
-  | inr m ↦ inr (nat_cmp-IsAntisymmetric b.secs a.secs m.0, elim (then_less (nat_cmp b.nanos a.nanos) (nat_cmp (weight b.claim) (weight a.claim)) m.1) [
-    | inl l ↦ inl (less_is b.nanos a.nanos l)
-    | inr n ↦ inr (nat_cmp-IsAntisymmetric b.nanos a.nanos n.0, less_is (weight b.claim) (weight a.claim) n.1)
-  ])
+  | inr m ↦ inr (
+    nat_cmp-IsAntisymmetric b.secs a.secs m.0,
+    elim (then_less (nat_cmp b.nanos a.nanos) (nat_cmp (weight b.claim) (weight a.claim)) m.1) [
+      | inl l ↦ inl (less_is b.nanos a.nanos l)
+      | inr n ↦ inr (nat_cmp-IsAntisymmetric b.nanos a.nanos n.0, less_is (weight b.claim) (weight a.claim) n.1)
+    ],
+  )
 ]
 
 lt_less : (o : Ordering) → is_lt o ≡ true → o ≡ Less

@@ -152,8 +152,8 @@ pub newest_sorted : (xs ys : List PlainLine) → IsPermutation xs ys → IsSorte
 newest_sorted xs ys moved sorted =
     let back = IsPermutation-sym xs ys moved in
     are_newest xs (lasts ys) (lines_alike ys xs (lasts ys)
-      (same_alike ys xs (λ l. (
-        λ h. contains_in l xs (Contains-permutation ys xs l back (in_contains l ys h)),
-        λ h. contains_in l ys (Contains-permutation xs ys l moved (in_contains l xs h)),
-      )))
-      (lasts_are ys (up_sorted ys sorted)))
+    (same_alike ys xs (λ l. (
+      λ h. contains_in l xs (Contains-permutation ys xs l back (in_contains l ys h)),
+      λ h. contains_in l ys (Contains-permutation xs ys l moved (in_contains l xs h)),
+    )))
+    (lasts_are ys (up_sorted ys sorted)))

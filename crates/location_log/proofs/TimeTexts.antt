@@ -86,9 +86,9 @@ number_read {E} bytes (Ok n) h p =
     (omega arith, sym (ap decimal is ∙ decimal-digits_value numerals bytes ds parsed.0.0 lone small))
 number_read {E} bytes (Err x) h p =
     λ n small e.
-        let some : 0 < length bytes = subst (λ (z : List ℕ). 0 < length z) (sym e) (decimal_nonempty n small) in
-        let value : digits_value 10 bytes ≡ n = ap (digits_value 10) e ∙ digits_value-decimal numerals n small in
-        parse_digits numerals {E = E} 64 bytes (Err x) p (number_digits bytes h) (some, omega arith)
+    let some : 0 < length bytes = subst (λ (z : List ℕ). 0 < length z) (sym e) (decimal_nonempty n small) in
+    let value : digits_value 10 bytes ≡ n = ap (digits_value 10) e ∙ digits_value-decimal numerals n small in
+    parse_digits numerals {E = E} 64 bytes (Err x) p (number_digits bytes h) (some, omega arith)
 
 -- ---- fractions
 pub fraction_small : (ds : List ℕ) → AreDigits ds → length ds ≤ 9 → digits_value 10 ds * 10 ^ (9 - length ds) < 1000000000
@@ -128,8 +128,7 @@ fraction_read {E} ds (Err x) n unit e u h few p = absurd (cc e)
 fraction_read {E} ds (Ok m) n unit e u h few p =
     let parsed = parse_digits numerals {E = E} 32 ds (Ok m) p h in
     let same : m ≡ n = cc e in
-    let is : n * unit ≡ digits_value 10 ds * 10 ^ (9 - length ds) = λ i. (sym same ∙ parsed.1) i * u i in
-    (
+    let is : n * unit ≡ digits_value 10 ds * 10 ^ (9 - length ds) = λ i. (sym same ∙ parsed.1) i * u i in (
       subst (λ (k : ℕ). k < 1000000000) (sym is) (fraction_small ds h few),
       record { some = parsed.0.0; few = few; each = h; value = is },
     )

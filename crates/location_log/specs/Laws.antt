@@ -1,11 +1,9 @@
 -- What holds of every log.
 use Rattle.std.specs.Prelude.{◌≡◌, ◌↔◌, ℕ, ◌+◌, Bool, true, List, ◌∷◌, ◌++◌}
-use Rattle.std.specs.List.{AllByRecursion, Contains}
 use Rattle.location_log.specs.Counting.{Counts, IsPresent}
 use Rattle.location_log.specs.Newest.{AreNewest}
 use Rattle.location_log.specs.Noting.{IsNoted}
-use Rattle.location_log.specs.Plain.{IsLogLine, PlainLine}
-use Rattle.location_log.specs.Printing.{log_text}
+use Rattle.location_log.specs.Plain.{PlainLine}
 use Rattle.location_log.specs.Texts.{IsBadAt, IsLogText}
 
 -- A text is of one log at most; it has one first bad line at most, and one that has is of no log.

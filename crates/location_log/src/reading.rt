@@ -1,5 +1,5 @@
 // Reading a log, line by line.
-ghost use Rattle.std.specs.Prelude.{◌≡◌, ◌++◌, ◌∷◌, [], true, false, ℕ, List, Some, codes, MatchOption};
+ghost use Rattle.std.specs.Prelude.{◌≡◌, ◌++◌, true, false, ℕ, List, Some, codes, MatchOption};
 ghost use Rattle.std.specs.Prelude.{MatchResult, IfOk};
 ghost use Rattle.config_text.specs.All.{uuid_of};
 ghost use Rattle.location_log.specs.Plain.{PlainLine};

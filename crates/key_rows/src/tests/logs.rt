@@ -91,8 +91,22 @@ fn lines_that_are_read(rt: HostRuntime) {
     let alloc = rt.alloc();
     reads(&rt, alloc, "5.5s X ", 5, 500_000_000, Claim::Dead);
     reads(&rt, alloc, "5.000000007s 0 ", 5, 7, Claim::Absent);
-    reads(&rt, alloc, "0.123456789s 1 ", 0, 123_456_789, Claim::Present);
-    reads(&rt, alloc, "1700000100s 1 ", 1_700_000_100, 0, Claim::Present);
+    reads(
+        &rt,
+        alloc,
+        "0.123456789s 1 ",
+        0,
+        123_456_789,
+        Claim::Present,
+    );
+    reads(
+        &rt,
+        alloc,
+        "1700000100s 1 ",
+        1_700_000_100,
+        0,
+        Claim::Present,
+    );
 }
 
 fn prints_as(rt: &impl Abort, alloc: Global, front: &str, want: &str) {

@@ -21,6 +21,6 @@ returns-else-nanos-eq0 c =
     let n = c.args.nanos in
     on_ok_weaker c.write-else-nanos-eq0.result
     (λ e. e ∙ ap (λ (z : List ℕ). string_bytes c.args.text.now ++ (decimal c.args.secs ++ z))
-      (ap (λ (z : List ℕ). 46 ∷ z) (styled_nine n)
-      ∙ sym (cond-false (n == 0) [] (46 ∷ nine_digits n) (ne_eqb n 0 c.if-nanos-eq0.false))))
+    (ap (λ (z : List ℕ). 46 ∷ z) (styled_nine n)
+    ∙ sym (cond-false (n == 0) [] (46 ∷ nine_digits n) (ne_eqb n 0 c.if-nanos-eq0.false))))
     (rw c.laid_out.ensures at c.write-else-nanos-eq0.ensures.bytes)
