@@ -7,7 +7,7 @@ use Rattle.std.proofs.lemmas.Bool.{cases_Bool, cond-false, cond-true, false≢tr
 use Rattle.std.proofs.lemmas.List.{take_all, take_more}
 use Rattle.std.proofs.lemmas.Slice.Eq.{bytes_eq-Decides}
 use Rattle.location_log.specs.declared.lines.Claim.TheVariants.{Present}
-use Rattle.location_log.specs.Counting.{Beats, Counts, HasNone, IsPresent}
+use Rattle.location_log.specs.Counting.{Counts, HasNone, IsPresent}
 use Rattle.location_log.specs.Plain.{PlainLine}
 use Rattle.location_log.specs.Steps.{better_of, rank_cmp}
 use Rattle.location_log.proofs.Orders.{kept, keeps, neither, rank_self, rank_weak}

@@ -1,14 +1,11 @@
 -- The lines that count, of two lists together and of one.
-use Rattle.std.proofs.Common.{◌≡◌, ℕ, false, List, [], ◌∷◌, ◌++◌, inl, inr, refl, sym, ap, ◌∙◌, subst, append_assoc}
-use Rattle.std.specs.Prelude.{◌↔◌, ◌⊎◌}
-use Rattle.std.specs.List.{AllByRecursion, Contains}
-use Rattle.std.specs.Ordering.{is_lt}
-use Rattle.location_log.specs.Counting.{Counts}
+use Rattle.std.proofs.Common.{◌≡◌, ℕ, List, [], ◌∷◌, ◌++◌, inl, inr, refl, sym, ap, ◌∙◌, subst, append_assoc}
+use Rattle.std.specs.Prelude.{◌↔◌}
+use Rattle.std.specs.List.{AllByRecursion}
 use Rattle.location_log.specs.Laws.{CountOnce, MergesAgree}
 use Rattle.location_log.specs.Newest.{AreNewest, Ascend, IsBefore}
 use Rattle.location_log.specs.Plain.{PlainLine}
-use Rattle.location_log.specs.Steps.{rank_cmp}
-use Rattle.location_log.proofs.Best.{BestOf, In, NoneOf, SameLines, best_of, best_once, contains_in, counts_of, in-append, in_contains, in_left, in_right, of_itself, same_best, self_or, some_best}
+use Rattle.location_log.proofs.Best.{BestOf, In, SameLines, best_of, best_once, contains_in, counts_of, in-append, in_contains, in_left, in_right, of_itself, same_best, self_or, some_best}
 use Rattle.location_log.proofs.Orders.{not_itself, one_way, rank_weak}
 
 -- the lines are those that count, by recursion

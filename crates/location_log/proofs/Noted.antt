@@ -1,15 +1,13 @@
 -- What holds after a note.
-use Rattle.std.proofs.Common.{◌≡◌, ℕ, ◌+◌, ◌<◌, ◌≤◌, Bool, true, false, List, [], ◌∷◌, inl, inr, refl, sym, ap, ◌∙◌, subst, arith}
-use Rattle.std.specs.Prelude.{◌↔◌, ◌⊎◌, max}
+use Rattle.std.proofs.Common.{◌≡◌, ℕ, ◌<◌, Bool, true, false, List, ◌∷◌, inl, inr, refl, sym, ap, ◌∙◌, arith}
+use Rattle.std.specs.Prelude.{◌↔◌}
 use Rattle.std.specs.Ordering.{is_lt}
-use Rattle.location_log.specs.declared.lines.Claim.TheVariants.{Absent, Present}
-use Rattle.location_log.specs.Counting.{Counts, HasNone, IsPresent}
+use Rattle.location_log.specs.declared.lines.Claim.TheVariants.{Present}
 use Rattle.location_log.specs.Laws.{NotesCount}
-use Rattle.location_log.specs.Newest.{AreNewest}
-use Rattle.location_log.specs.Noting.{IsNoted, IsNotedTime, claimed}
+use Rattle.location_log.specs.Noting.{IsNoted, claimed}
 use Rattle.location_log.specs.Plain.{PlainLine}
 use Rattle.location_log.specs.Steps.{rank_cmp}
-use Rattle.location_log.proofs.Best.{BestOf, NoneOf, best_of, best_once, counts_of, less_other, more_first, more_keeps, more_other, none_of, self_or}
+use Rattle.location_log.proofs.Best.{BestOf, best_of, best_once, counts_of, less_other, more_first, more_other, none_of, self_or}
 use Rattle.location_log.proofs.Merging.{best_lines, best_out}
 use Rattle.location_log.proofs.Orders.{beats_less, rank_weak}
 

@@ -1,5 +1,5 @@
 -- Lines in order: of each repository the last counts.
-use Rattle.std.proofs.Common.{◌≡◌, ℕ, zero, suc, ◌+◌, ◌<◌, ◌≤◌, true, false, cond, List, [], ◌∷◌, length, get_or, inl, inr, refl, sym, ap, ◌∙◌, subst, arith}
+use Rattle.std.proofs.Common.{◌≡◌, ℕ, suc, ◌<◌, ◌≤◌, true, false, cond, List, [], ◌∷◌, length, get_or, inl, inr, refl, sym, ap, ◌∙◌, subst, arith}
 use Rattle.std.specs.Prelude.{bytes_eq}
 use Rattle.std.specs.List.{AllByRecursion}
 use Rattle.std.specs.List.Sorted.{IsPermutation, IsSorted}
@@ -11,7 +11,7 @@ use Rattle.std.proofs.lemmas.Slice.Eq.{bytes_eq-Decides}
 use Rattle.location_log.specs.Newest.{AreNewest, Ascend, IsBefore}
 use Rattle.location_log.specs.Plain.{PlainLine}
 use Rattle.location_log.specs.Steps.{lasts, line_cmp, rank_cmp}
-use Rattle.location_log.proofs.Best.{BestOf, In, NoneOf, contains_in, in_contains, less_other, more_first, more_keeps, more_other, self_or}
+use Rattle.location_log.proofs.Best.{BestOf, In, NoneOf, contains_in, in_contains, more_first, more_keeps, more_other, self_or}
 use Rattle.location_log.proofs.Merging.{BestLines, are_newest, in_all, lines_alike, same_alike}
 use Rattle.location_log.proofs.Orders.{before_trans, line_weak, neither, not_below, not_itself, same_below}
 

@@ -1,5 +1,5 @@
 -- What holds of every log.
-use Rattle.std.specs.Prelude.{◌≡◌, ◌↔◌, ℕ, ◌+◌, Bool, true, List, ◌∷◌, ◌++◌}
+use Rattle.std.specs.Prelude.{◌≡◌, ◌↔◌, ℕ, Bool, true, List, ◌∷◌, ◌++◌}
 use Rattle.location_log.specs.Counting.{Counts, IsPresent}
 use Rattle.location_log.specs.Newest.{AreNewest}
 use Rattle.location_log.specs.Noting.{IsNoted}

@@ -1,4 +1,4 @@
-use Rattle.std.proofs.Common.{◌≡◌, ◌<◌, length, get_or, subst, sym, rules}
+use Rattle.std.proofs.Common.{◌<◌, get_or, subst, sym, rules}
 use Rattle.std.proofs.lemmas.List.{get_or_default}
 use Rattle.location_log.proofs.lines.sixteen.Goals as goal
 

@@ -1,4 +1,4 @@
-use Rattle.std.proofs.Common.{◌≡◌, ℕ, List, length, false, true, eqb, inl, inr, sym, ap, ◌∙◌}
+use Rattle.std.proofs.Common.{length, inl, inr, sym, ap, ◌∙◌}
 use Rattle.std.proofs.lemmas.Bool.{eqb-false}
 use Rattle.location_log.proofs.reading.take_line.Goals as goal
 

@@ -1,4 +1,4 @@
-use Rattle.std.proofs.Common.{◌∙◌, subst, sym, arith}
+use Rattle.std.proofs.Common.{subst, sym, arith}
 use Rattle.config_text.specs.All.{IsUuid}
 use Rattle.location_log.proofs.lines.LogLine.new.Goals as goal
 
