@@ -7,14 +7,11 @@ const ONE: &str = "490cbdc2-0d82-5cbd-94d8-aba5bedae8d0";
 
 const TWO: &str = "01234567-89ab-5cde-8f01-23456789abcd";
 
-fn log(rt: &impl Abort, alloc: Global, text: &str) -> Vec<LogLine> {
-    read(alloc, text.as_bytes()).expect(rt, "a log")
-}
-
-// The log of one line, with what stands before the UUID, and the UUID.
-fn log_of(rt: &impl Abort, alloc: Global, front: &str, uuid: &str) -> Vec<LogLine> {
+// The line with this front and UUID.
+fn line_of(rt: &impl Abort, alloc: Global, front: &str, uuid: &str) -> LogLine {
     let text = format!(in alloc; "{front}{uuid}\n").expect(rt, "memory");
-    log(rt, alloc, text.as_str())
+    let lines = read(alloc, text.as_str().as_bytes()).expect(rt, "a log");
+    *lines.as_slice().first().expect(rt, "a line")
 }
 
 fn prints(rt: &impl Abort, alloc: Global, lines: &[LogLine], front: &str, uuid: &str) {
@@ -79,11 +76,10 @@ fn texts_of_none(rt: HostRuntime) {
 }
 
 fn reads(rt: &impl Abort, alloc: Global, front: &str, secs: u64, nanos: u32, claim: Claim) {
-    let lines = log_of(rt, alloc, front, ONE);
-    assert_eq!(rt; lines.len(), 1);
-    assert_eq!(rt; lines[0].secs(), secs);
-    assert_eq!(rt; lines[0].nanos(), nanos);
-    assert!(rt; lines[0].claim() == claim, "{front}");
+    let line = line_of(rt, alloc, front, ONE);
+    assert_eq!(rt; line.secs(), secs);
+    assert_eq!(rt; line.nanos(), nanos);
+    assert!(rt; line.claim() == claim, "{front}");
 }
 
 #[test]
@@ -91,14 +87,7 @@ fn lines_that_are_read(rt: HostRuntime) {
     let alloc = rt.alloc();
     reads(&rt, alloc, "5.5s X ", 5, 500_000_000, Claim::Dead);
     reads(&rt, alloc, "5.000000007s 0 ", 5, 7, Claim::Absent);
-    reads(
-        &rt,
-        alloc,
-        "0.123456789s 1 ",
-        0,
-        123_456_789,
-        Claim::Present,
-    );
+    reads(&rt, alloc, "7.12345678s 1 ", 7, 123_456_780, Claim::Present);
     reads(
         &rt,
         alloc,
@@ -110,9 +99,9 @@ fn lines_that_are_read(rt: HostRuntime) {
 }
 
 fn prints_as(rt: &impl Abort, alloc: Global, front: &str, want: &str) {
-    let lines = log_of(rt, alloc, front, ONE);
-    prints(rt, alloc, lines.as_slice(), want, ONE);
-    let again = reread(alloc, lines.as_slice()).expect(rt, "memory");
+    let line = line_of(rt, alloc, front, ONE);
+    prints(rt, alloc, &[line], want, ONE);
+    let again = reread(alloc, &[line]).expect(rt, "memory");
     prints(rt, alloc, again.as_slice(), want, ONE);
 }
 
@@ -122,17 +111,16 @@ fn lines_that_are_printed(rt: HostRuntime) {
     prints_as(&rt, alloc, "5.0s 1 ", "5s 1 ");
     prints_as(&rt, alloc, "5.07s 0 ", "5.070000000s 0 ");
     prints_as(&rt, alloc, "5.000000007s X ", "5.000000007s X ");
-    let capital = log_of(&rt, alloc, "5s 1 ", "490CBDC2-0D82-5CBD-94D8-ABA5BEDAE8D0");
-    prints(&rt, alloc, capital.as_slice(), "5s 1 ", ONE);
+    let capital = line_of(&rt, alloc, "5s 1 ", "490CBDC2-0D82-5CBD-94D8-ABA5BEDAE8D0");
+    prints(&rt, alloc, &[capital], "5s 1 ", ONE);
 }
 
-// Notes of the repository of a log at a moment, and prints what counts then.
+// Notes of the repository of a line at a moment, and prints what counts then.
 fn notes(rt: &impl Abort, alloc: Global, old: &str, here: bool, moment: u64, want: &str) {
-    let lines = log_of(rt, alloc, old, ONE);
-    let uuid = lines[0].uuid();
-    let noted = note(alloc, lines.as_slice(), &uuid, here, moment).expect(rt, "a note");
+    let line = line_of(rt, alloc, old, ONE);
+    let noted = note(alloc, &[line], &line.uuid(), here, moment).expect(rt, "a note");
     prints(rt, alloc, noted.as_slice(), want, ONE);
-    assert!(rt; present(noted.as_slice(), &uuid) == here);
+    assert!(rt; present(noted.as_slice(), &line.uuid()) == here);
 }
 
 #[test]
@@ -141,29 +129,28 @@ fn claims_that_are_noted(rt: HostRuntime) {
     notes(&rt, alloc, "5.5s X ", true, 5, "6s 1 ");
     notes(&rt, alloc, "5s 1 ", false, 1_700_000_100, "1700000100s 0 ");
     notes(&rt, alloc, "1700000100s 0 ", true, 5, "1700000101s 1 ");
-    let other = log_of(&rt, alloc, "5s 1 ", ONE);
-    let first = note(alloc, &[], &other[0].uuid(), true, 1_700_000_100);
-    let lines = first.expect(&rt, "a note");
-    prints(&rt, alloc, lines.as_slice(), "1700000100s 1 ", ONE);
+    let uuid = line_of(&rt, alloc, "5s 1 ", ONE).uuid();
+    let first = note(alloc, &[], &uuid, true, 1_700_000_100).expect(&rt, "a note");
+    prints(&rt, alloc, first.as_slice(), "1700000100s 1 ", ONE);
 }
 
 #[test]
 fn times_that_are_full(rt: HostRuntime) {
     let alloc = rt.alloc();
-    let lines = log_of(&rt, alloc, "18446744073709551615s 1 ", ONE);
-    match note(alloc, lines.as_slice(), &lines[0].uuid(), true, 5) {
+    let line = line_of(&rt, alloc, "18446744073709551615s 1 ", ONE);
+    match note(alloc, &[line], &line.uuid(), true, 5) {
         Err(LogErr::TimeFull) => (),
         _ => panic!(&rt; "a later second"),
     }
-    assert!(&rt; note(alloc, &[], &lines[0].uuid(), true, u64::MAX).is_ok());
+    assert!(&rt; note(alloc, &[], &line.uuid(), true, u64::MAX).is_ok());
 }
 
 // Merges two lines of a repository in both orders.
 fn merges(rt: &impl Abort, alloc: Global, one: &str, two: &str, want: &str) {
-    let a = log_of(rt, alloc, one, ONE);
-    let b = log_of(rt, alloc, two, ONE);
-    let ab = merge(alloc, a.as_slice(), b.as_slice()).expect(rt, "memory");
-    let ba = merge(alloc, b.as_slice(), a.as_slice()).expect(rt, "memory");
+    let a = line_of(rt, alloc, one, ONE);
+    let b = line_of(rt, alloc, two, ONE);
+    let ab = merge(alloc, &[a], &[b]).expect(rt, "memory");
+    let ba = merge(alloc, &[b], &[a]).expect(rt, "memory");
     prints(rt, alloc, ab.as_slice(), want, ONE);
     prints(rt, alloc, ba.as_slice(), want, ONE);
 }
@@ -175,12 +162,16 @@ fn logs_that_are_merged(rt: HostRuntime) {
     merges(&rt, alloc, "5s X ", "5s 0 ", "5s X ");
     merges(&rt, alloc, "5s X ", "5.000000001s 1 ", "5.000000001s 1 ");
     merges(&rt, alloc, "6s 1 ", "5.9s X ", "6s 1 ");
-    let one = log_of(&rt, alloc, "5s 1 ", ONE);
-    let two = log_of(&rt, alloc, "7s 0 ", TWO);
-    let both = merge(alloc, one.as_slice(), two.as_slice()).expect(&rt, "memory");
-    assert_eq!(&rt; both.len(), 2);
-    prints(&rt, alloc, &both.as_slice()[..1], "7s 0 ", TWO);
-    prints(&rt, alloc, &both.as_slice()[1..], "5s 1 ", ONE);
-    assert!(&rt; present(both.as_slice(), &one[0].uuid()));
-    assert!(&rt; !present(both.as_slice(), &two[0].uuid()));
+}
+
+#[test]
+fn repositories_in_order(rt: HostRuntime) {
+    let alloc = rt.alloc();
+    let one = line_of(&rt, alloc, "5s 1 ", ONE);
+    let two = line_of(&rt, alloc, "7s 0 ", TWO);
+    let both = merge(alloc, &[one], &[two]).expect(&rt, "memory");
+    let front = format!(in alloc; "7s 0 {TWO}\n5s 1 ").expect(&rt, "memory");
+    prints(&rt, alloc, both.as_slice(), front.as_str(), ONE);
+    assert!(&rt; present(both.as_slice(), &one.uuid()));
+    assert!(&rt; !present(both.as_slice(), &two.uuid()));
 }
