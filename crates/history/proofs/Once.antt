@@ -5,11 +5,12 @@ use Rattle.places.specs.All.{Names, Ground}
 use Rattle.file_store.specs.All.{or_next}
 use Rattle.faults.specs.declared.faults.Fault.{Fault}
 use Rattle.faults.specs.declared.faults.Fault.TheVariants.{BadCommit}
-use Rattle.git_objects.specs.All.{Fields, HasOneReading, IsBadCommitAt, IsCommitText, Object}
+use Rattle.git_objects.specs.All.{Fields, HasOneReading, IsBadCommitAt, Object}
 use Rattle.git_objects.specs.declared.objects.ObjKind.TheVariants.{Commit as CommitKind}
 use Rattle.repository.specs.All.{held_at}
 use Rattle.object_store.specs.All.{IsBadCommitHeld, IsCommitFault, get_fault, kind_fault, missing_fault}
 use Rattle.ref_store.specs.All.{AreHeld, GoAlong, HasFields, Passed, ResolvesOnce, first_parent, walk_limit}
+use Rattle.dataset.proofs.Parents.{fields_once}
 use Rattle.history.specs.Logs.{IsLog, IsLogFrom, IsNoLog, IsNoLogFrom, LogEnds, log_text}
 use Rattle.history.specs.Logs.{too_long, unlogged, unread, unresolved}
 
@@ -37,11 +38,6 @@ module _ (once : HasOneReading) (repo : Names) (g : Ground) where
       let held : Some (record { kind = CommitKind; body = one }) ≡ Some (record { kind = CommitKind; body = two }) = sym a ∙ b in
       let objects : record { kind = CommitKind; body = one } ≡ record { kind = CommitKind; body = two } = cc held in
       ap (λ (o : Object). o.body) objects
-
-  fields_once : (id : List ℕ) (a b : Fields) → HasFields repo id g a → HasFields repo id g b → a ≡ b
-  fields_once id a b one two =
-      let body = same_body one.commit.body two.commit.body id one.commit.held two.commit.held in
-      once.commit two.commit.body a b (subst (λ (z : List ℕ). IsCommitText z a) body one.commit.text) two.commit.text
 
   -- ---- one fault of a commit
   abbrev HasFault : List ℕ → Fault → Type 0
@@ -82,7 +78,7 @@ module _ (once : HasOneReading) (repo : Names) (g : Ground) where
   passed_once : (id : List ℕ) (c d : Passed) → c.id ≡ id → d.id ≡ id → HasFields repo c.id g c.fields → HasFields repo d.id g d.fields → c ≡ d
   passed_once id c d c_is d_is one two =
       let ids : c.id ≡ d.id = c_is ∙ sym d_is in
-      let fields = fields_once d.id c.fields d.fields (subst (λ (z : List ℕ). HasFields repo z g c.fields) ids one) two in
+      let fields = fields_once repo g d.id c.fields d.fields (subst (λ (z : List ℕ). HasFields repo z g c.fields) ids one).commit two.commit in
       λ i. record { id = ids i; fields = fields i }
 
   beside : (from : Option (List ℕ)) (p q : List Passed) (a b : Option (List ℕ)) → GoAlong from p a → GoAlong from q b → AreHeld repo g p → AreHeld repo g q → Beside repo g p q a b
