@@ -1,9 +1,9 @@
 -- What follows of a command by its acts, whichever command it is.
-use Rattle.std.proofs.Common.{◌≡◌, ◌<◌, ◌^◌, ℕ, List, Option, Bool, true, false, refl, sym, ◌∙◌}
+use Rattle.std.proofs.Common.{◌≡◌, ◌<◌, ◌^◌, ℕ, List, Option, Bool, true, refl, sym, ◌∙◌}
 use Rattle.places.specs.All.{Names}
 use Rattle.file_store.specs.All.{Drive, present}
 use Rattle.faults.specs.declared.faults.Fault.{Fault}
-use Rattle.acts.specs.All.{Act, Ending, EndsRefused, Gives, Moments, Reaches, still}
+use Rattle.acts.specs.All.{Act, EndsRefused, Gives, Moments, Reaches}
 use Rattle.dataset.specs.All.{Sound}
 use Rattle.recursive_save.specs.All.{CreateKeepsSound, SaveKeepsSound, SaveIsComplete, SaveIsOne}
 use Rattle.recursive_save.specs.All.{IsSoundRefusal, SaveKeeps, StatusEnds, StatusIsComplete, StatusIsOne}
@@ -13,7 +13,7 @@ use Rattle.dl_words.specs.declared.words.Word.{Word}
 use Rattle.dl_words.specs.declared.words.Words.{Words}
 use Rattle.dl_words.specs.declared.words.Words.TheVariants as words
 use Rattle.datalad_cli.specs.Commands.{Command, Help, HasOneAct, IsActOf, IsSoundFault, Log, LogComes}
-use Rattle.datalad_cli.specs.Commands.{MayAnswer, Status, Version, command_of}
+use Rattle.datalad_cli.specs.Commands.{MayAnswer, StatusOf, Version, command_of}
 use Rattle.datalad_cli.specs.Ends.{AtEachMoment, KeepsSound}
 use Rattle.datalad_cli.specs.Finding.{Location, location_by}
 use Rattle.datalad_cli.specs.Help.{help_text, version_text}
@@ -56,7 +56,7 @@ module _ (laws : CommandLaws) (cwd : Names) (moment : ℕ) (dated : moment < 2 ^
     one = λ one two is other. read_has_one (LogComes word) (λ root. laws.logged (repo_of root) word) at (present old) one two is other;
   }
 
-  status_follows : (at : Location) → Follows (Status at) old new
+  status_follows : (at : Location) → Follows (StatusOf at) old new
   status_follows at = record {
     leaves = λ act is m.
         let none = read_still StatusEnds at (present old) act is in

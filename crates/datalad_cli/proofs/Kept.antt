@@ -10,7 +10,7 @@ use Rattle.acts.specs.All.{Act, Ending, last_of, none_loose, refuses, IsFirm, Mo
 use Rattle.acts.specs.All.{IsSame, Refuses, still}
 use Rattle.recursive_save.specs.All.{new_dataset, create_step, SaveKeeps}
 use Rattle.recursive_save.proofs.Consequences.{every_moment}
-use Rattle.faults.specs.declared.faults.Fault.TheVariants.{BadPath, NotADataset}
+use Rattle.faults.specs.declared.faults.Fault.TheVariants.{BadPath}
 use Rattle.datalad_cli.specs.Commands.{Create, Save, IsActIn, IsSaveAct, LeavesAt, creates, ending_with}
 use Rattle.datalad_cli.specs.Commands.{wish_of}
 use Rattle.datalad_cli.specs.Ends.{AtEachMoment}

@@ -8,12 +8,11 @@ use Rattle.faults.specs.declared.faults.Fault.{Fault}
 use Rattle.faults.specs.declared.faults.Trouble.{Trouble}
 use Rattle.faults.specs.declared.faults.Trouble.TheVariants.{Refused as RefusedBy}
 use Rattle.faults.specs.declared.faults.Trouble.TheVariants.{Device as ByDevice}
-use Rattle.faults.specs.declared.faults.Trouble.TheVariants.{NoMemory as ByMemory}
 use Rattle.file_store.specs.declared.errors.SinkErr.{SinkErr}
 use Rattle.file_store.specs.declared.errors.SinkErr.TheVariants.{Failed, NoMemory}
 use Rattle.datalad_cli.specs.Answer.{device_text, memory_text}
 use Rattle.datalad_cli.specs.Reports.{Failure, HasCounted, Heard, OutputCounts, RefusalEnds, SaysPart}
-use Rattle.datalad_cli.specs.Reports.{Tapes, TextEnds, TookPart, TookText, WasCutShort, WasUnhindered}
+use Rattle.datalad_cli.specs.Reports.{TextEnds, TookPart, TookText, WasCutShort, WasUnhindered}
 use Rattle.datalad_cli.specs.Reports.{of_device, of_memory, outcome_text}
 use Rattle.datalad_cli.specs.declared.status.Status.{Status}
 use Rattle.datalad_cli.specs.declared.status.Status.TheVariants.{Done, Refused, Usage}

@@ -1,16 +1,14 @@
 -- The reading of a call's words, and calls that end with it alone.
-use Rattle.std.proofs.Common.{◌≡◌, ◌⊎◌, inl, inr, ℕ, Bool, true, false, IsTrue, List, [], ◌++◌, Option, Some, None, Result, Ok, Err, refl, sym, ◌∙◌, ap, subst, arith, append-nil}
+use Rattle.std.proofs.Common.{◌≡◌, ◌⊎◌, inl, inr, ℕ, Bool, true, false, IsTrue, [], Some, None, Err, refl, sym, ◌∙◌, ap, subst, arith, append-nil}
 use Rattle.std.proofs.lemmas.Bool.{false≢true}
-use Rattle.places.specs.All.{Ground}
 use Rattle.file_store.specs.All.{Drive, Tape, present}
-use Rattle.faults.specs.declared.faults.Trouble.{Trouble}
 use Rattle.faults.specs.declared.faults.Trouble.TheVariants.{NoMemory as ByMemory}
-use Rattle.dl_words.specs.All.{AskFor, AskOnce, EndsAt, EndsOnce, HaveMeaning, is_built}
+use Rattle.dl_words.specs.All.{AskFor, AskOnce, EndsAt, EndsOnce, is_built}
 use Rattle.dl_words.specs.declared.words.Words.{Words}
 use Rattle.datalad_cli.specs.Answer.{Call, memory_text}
 use Rattle.datalad_cli.specs.Answered.{Answered}
 use Rattle.datalad_cli.specs.Commands.{Asks, Command, Create, HasOneAct, HasOneReading, Help, IsReading}
-use Rattle.datalad_cli.specs.Commands.{Log, MaySay, Misread, Reading, Save, Status, Version, command_of}
+use Rattle.datalad_cli.specs.Commands.{Log, MaySay, Misread, Reading, Save, StatusOf, Version, command_of}
 use Rattle.datalad_cli.specs.Decides.{CommandSays}
 use Rattle.datalad_cli.specs.Ends.{CommandEnds, Telling, World, world_of}
 use Rattle.datalad_cli.specs.Reports.{HasCounted, OutputCounts, SaysPart, TookPart, TookText, UsageEnds}
@@ -62,7 +60,7 @@ says_nothing : (command : Command) → MaySay command [] (Err ByMemory)
 says_nothing (Create None at moment fresh) = refl
 says_nothing (Create (Some root) at moment fresh) = refl
 says_nothing (Save at message moment) = refl
-says_nothing (Status at) = refl
+says_nothing (StatusOf at) = refl
 says_nothing (Log at word) = refl
 says_nothing Help = refl
 says_nothing Version = refl

@@ -7,7 +7,7 @@ pub use Rattle.datalad_cli.specs.Commands.{Asks, CanKeep, CarriesOut, Comes, Com
 pub use Rattle.datalad_cli.specs.Commands.{HasOneAct, HasOneReading, Help, IsActIn, IsActOf}
 pub use Rattle.datalad_cli.specs.Commands.{IsReadAct, IsReading, IsSaveAct, IsSoundFault, Leaves}
 pub use Rattle.datalad_cli.specs.Commands.{LeavesAt, Log, LogComes, MayAnswer, MayIn, MaySay}
-pub use Rattle.datalad_cli.specs.Commands.{Misread, Reading, Save, Status, Version, command_of}
+pub use Rattle.datalad_cli.specs.Commands.{Misread, Reading, Save, StatusOf, Version, command_of}
 pub use Rattle.datalad_cli.specs.Commands.{creates, ending_by, ending_with, wish_of, with_text}
 pub use Rattle.datalad_cli.specs.Decides.{CommandSays, EndsCutOff, EndsSaying, HasFault, MayEnd}
 pub use Rattle.datalad_cli.specs.Decides.{WordsDecide}

@@ -34,7 +34,7 @@ use Rattle.datalad_cli.specs.Words.{leads, message_by, revision_by}
 pub data Command : Type 0 where
   Create : Option Names → ℕ → ℕ → List ℕ → Command
   Save : Location → List ℕ → ℕ → Command
-  Status : Location → Command
+  StatusOf : Location → Command
   Log : Location → List ℕ → Command
   Help : Command
   Version : Command
@@ -99,7 +99,7 @@ abbrev pub IsActOf : Command → Ground → Act (List ℕ) → Type 0
 IsActOf (Create dir at moment fresh) g act = act ≡ creates dir at moment fresh g
 IsActOf (Save at message moment) g act =
     IsActIn at (IsSaveAct (wish_of message moment) g) (root_in at g) act
-IsActOf (Status at) g act = IsActIn at (IsReadAct StatusEnds g) (root_in at g) act
+IsActOf (StatusOf at) g act = IsActIn at (IsReadAct StatusEnds g) (root_in at g) act
 IsActOf (Log at word) g act =
     IsActIn at (IsReadAct (LogComes word) g) (root_in at g) act
 IsActOf Help g act = act ≡ still (Gives help_text)
@@ -123,7 +123,7 @@ MayAnswer tells (Create (Some root) at moment fresh) fault =
     MayCreate tells (new_dataset root moment fresh) fault
 MayAnswer tells (Save at message moment) fault =
     MayIn at (λ root. MaySave tells root fault) fault
-MayAnswer tells (Status at) fault = MayIn at (λ root. MayView tells root fault) fault
+MayAnswer tells (StatusOf at) fault = MayIn at (λ root. MayView tells root fault) fault
 MayAnswer tells (Log at word) fault = MayIn at (λ root. MayLog (repo_of root) word fault) fault
 MayAnswer tells Help fault = ⊥
 MayAnswer tells Version fault = ⊥
@@ -147,8 +147,8 @@ MaySay (Create (Some root) at moment fresh) lines (Err trouble) = lines ≡ []
 MaySay (Save at message moment) lines (Ok text) =
     (text ≡ []) × (AreSaveLines lines ⊎ (lines ≡ dataset_line (codes "notneeded") ∷ []))
 MaySay (Save at message moment) lines (Err trouble) = lines ≡ []
-MaySay (Status at) lines (Ok text) = IsStatusText text × (lines ≡ [])
-MaySay (Status at) lines (Err trouble) = lines ≡ []
+MaySay (StatusOf at) lines (Ok text) = IsStatusText text × (lines ≡ [])
+MaySay (StatusOf at) lines (Err trouble) = lines ≡ []
 MaySay (Log at word) lines (Ok text) = IsLogText text × (lines ≡ [])
 MaySay (Log at word) lines (Err trouble) = lines ≡ []
 MaySay Help lines (Ok text) = (text ≡ help_text) × (lines ≡ [])
@@ -171,7 +171,7 @@ Leaves (Create None at moment fresh) end Else g x = IsSame Else g x
 Leaves (Create (Some root) at moment fresh) end Else g x =
     CreateRemains (new_dataset root moment fresh) Else g x
 Leaves (Save at message moment) end Else g x = LeavesAt (root_in at g) end Else g x
-Leaves (Status at) end Else g x = IsSame Else g x
+Leaves (StatusOf at) end Else g x = IsSame Else g x
 Leaves (Log at word) end Else g x = IsSame Else g x
 Leaves Help end Else g x = IsSame Else g x
 Leaves Version end Else g x = IsSame Else g x
@@ -183,7 +183,7 @@ CanKeep (Create None at moment fresh) = Unit {0}
 CanKeep (Create (Some root) at moment fresh) =
     NoneCollide (repo_of root) (new_parts (new_dataset root moment fresh)).objects
 CanKeep (Save at message moment) = Unit {0}
-CanKeep (Status at) = Unit {0}
+CanKeep (StatusOf at) = Unit {0}
 CanKeep (Log at word) = Unit {0}
 CanKeep Help = Unit {0}
 CanKeep Version = Unit {0}
@@ -193,7 +193,7 @@ abbrev pub IsSoundFault : Command → Fault → Type 0
 IsSoundFault (Create dir at moment fresh) fault =
     MayAnswer true (Create dir at moment fresh) fault
 IsSoundFault (Save at message moment) fault = (fault ≡ no_root at) ⊎ IsSoundRefusal fault
-IsSoundFault (Status at) fault = (fault ≡ no_root at) ⊎ IsSoundRefusal fault
+IsSoundFault (StatusOf at) fault = (fault ≡ no_root at) ⊎ IsSoundRefusal fault
 IsSoundFault (Log at word) fault = (fault ≡ no_root at) ⊎ IsSoundNoLog word fault
 IsSoundFault Help fault = ⊥
 IsSoundFault Version fault = ⊥
@@ -211,7 +211,7 @@ command_of cwd moment fresh (words.Create dataset path) =
     Create (leads cwd path.text) path.index moment fresh
 command_of cwd moment fresh (words.Save dataset message message_file recursive to_git paths) =
     Save (location_by cwd dataset) (message_by message) moment
-command_of cwd moment fresh (words.Status dataset recursive) = Status (location_by cwd dataset)
+command_of cwd moment fresh (words.Status dataset recursive) = StatusOf (location_by cwd dataset)
 command_of cwd moment fresh (words.Log dataset revision) =
     Log (location_by cwd dataset) (revision_by revision)
 command_of cwd moment fresh words.Version = Version

@@ -7,7 +7,7 @@ ghost use Rattle.history.specs.All.{LogIsComplete, LogIsOne};
 ghost use Rattle.dl_words.specs.All.{AskFor, AskOnce, EndsOnce, HaveMeaning};
 ghost use Rattle.datalad_cli.specs.Answer.{call_of};
 ghost use Rattle.datalad_cli.specs.Answered.{Answered};
-ghost use Rattle.datalad_cli.specs.Commands.{CarriesOut, Create, Log, MayAnswer, MaySay, Save, Status, command_of};
+ghost use Rattle.datalad_cli.specs.Commands.{CarriesOut, Create, Log, MayAnswer, MaySay, Save, StatusOf, command_of};
 ghost use Rattle.datalad_cli.specs.Commands.{creates};
 ghost use Rattle.datalad_cli.specs.Ends.{telling_of, world_of};
 ghost use Rattle.datalad_cli.specs.Finding.{location_by};
@@ -92,8 +92,8 @@ fn status_at<F: Files>(
     lines: &mut Vec<Line>,
 ) -> Result<Bytes, Trouble>
     requires { lines.old.items ≡ [] }
-    ensures says { MaySay (Status (location_by cwd.now dataset.now)) lines.new.items result }
-    ensures acts { CarriesOut F.tells (Status (location_by cwd.now dataset.now)) lines.old.items lines.new.items
+    ensures says { MaySay (StatusOf (location_by cwd.now dataset.now)) lines.new.items result }
+    ensures acts { CarriesOut F.tells (StatusOf (location_by cwd.now dataset.now)) lines.old.items lines.new.items
         (F.drive files.old) (F.drive files.new) result }
 {
     let root = find_root(alloc, files, cwd, dataset)?;

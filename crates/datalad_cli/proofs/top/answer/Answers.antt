@@ -1,4 +1,4 @@
-use Rattle.std.proofs.Common.{◌≡◌, ◌∙◌, inr, refl, sym, subst, List, arith}
+use Rattle.std.proofs.Common.{◌∙◌, inr, refl, sym, subst, List, arith}
 use Rattle.faults.specs.declared.lines.Line.{Line}
 use Rattle.datalad_cli.specs.Answer.{call_of}
 use Rattle.datalad_cli.specs.Commands.{CarriesOut, command_of}

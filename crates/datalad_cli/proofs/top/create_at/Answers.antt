@@ -1,4 +1,4 @@
-use Rattle.std.proofs.Common.{◌≡◌, List, ℕ, Option, Some, None, Ok, Err, ◌∙◌, sym, ap, subst, refl}
+use Rattle.std.proofs.Common.{List, ℕ, Option, Ok, Err, ◌∙◌, sym, ap, subst, refl}
 use Rattle.places.specs.All.{Names}
 use Rattle.faults.specs.declared.faults.Trouble.TheVariants.{Refused}
 use Rattle.acts.specs.All.{Acts}

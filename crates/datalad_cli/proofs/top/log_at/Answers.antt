@@ -1,4 +1,4 @@
-use Rattle.std.proofs.Common.{◌≡◌, List, ℕ, Ok, inl, refl, sym, subst}
+use Rattle.std.proofs.Common.{List, ℕ, Ok, inl, sym, subst}
 use Rattle.file_store.specs.All.{present}
 use Rattle.acts.proofs.As.{as_exits, as_unread}
 use Rattle.history.specs.All.{MayLog}

@@ -1,8 +1,8 @@
-use Rattle.std.proofs.Common.{inl, refl, sym, ◌∙◌, arith}
+use Rattle.std.proofs.Common.{inl, refl, arith}
 use Rattle.file_store.specs.All.{present}
 use Rattle.acts.proofs.As.{as_exits, as_starved, as_unread}
 use Rattle.datalad_cli.specs.Finding.{location_by}
-use Rattle.datalad_cli.proofs.Acting.{as_after, save_gave, save_failed, save_lines, none_found, found_later}
+use Rattle.datalad_cli.proofs.Acting.{as_after, save_gave, save_failed, none_found, found_later}
 use Rattle.datalad_cli.proofs.top.save_at.Goals as goal
 
 pub returns-in_err-message-clause-acts : goal.returns-in_err-message-clause-acts

@@ -1,8 +1,8 @@
-use Rattle.std.proofs.Common.{◌≡◌, List, ℕ, Ok, inl, refl, sym, subst}
+use Rattle.std.proofs.Common.{List, ℕ, Ok, inl, sym, subst}
 use Rattle.file_store.specs.All.{present}
 use Rattle.acts.proofs.As.{as_exits, as_unread}
 use Rattle.recursive_save.specs.All.{MayView, StatusEnds}
-use Rattle.datalad_cli.specs.Commands.{CarriesOut, Status}
+use Rattle.datalad_cli.specs.Commands.{CarriesOut, StatusOf}
 use Rattle.datalad_cli.specs.Finding.{location_by}
 use Rattle.datalad_cli.proofs.Acting.{as_after, none_found, found_later}
 use Rattle.datalad_cli.proofs.ReadActs.{read_gave, read_failed}
@@ -29,7 +29,7 @@ returns-clause-acts g c =
     let reads = c.in_ok-text.ensures.reads in
     let d = g.F.Files.drive in
     let l = c.args.lines.now.items in
-    subst (λ (text : List ℕ). CarriesOut g.F.Files.tells (Status (location_by c.args.cwd.now c.args.dataset.now)) l l (d c.args.files.now) (d c.status.new.files) (Ok text)) (sym c.new.ensures)
+    subst (λ (text : List ℕ). CarriesOut g.F.Files.tells (StatusOf (location_by c.args.cwd.now c.args.dataset.now)) l l (d c.args.files.now) (d c.status.new.files) (Ok text)) (sym c.new.ensures)
     (as_after found.later (λ t. (found.told t).same)
     (read_gave StatusEnds (λ root fault. MayView g.F.Files.tells root fault) (location_by c.args.cwd.now c.args.dataset.now) c.in_ok-root.root c.in_ok-root.ensures.above g.F.Files.tells l (d c.find_root.new.files) (d c.status.new.files)
     (λ t. found_later (location_by c.args.cwd.now c.args.dataset.now) c.in_ok-root.root (d c.args.files.now) (d c.find_root.new.files) (found.told t).same (found.told t).answer)
