@@ -70,9 +70,10 @@ fn lists(rt: HostRuntime) {
         .list(alloc, &place(rt, alloc, "/l"))
         .expect(rt, "list");
     is_size(rt, items.len(), 3);
-    is_item(rt, &items[0], "a", Kind::Dir);
-    is_item(rt, &items[1], "a-b", Kind::File);
-    is_item(rt, &items[2], "b", Kind::File);
+    let listed = [("a", Kind::Dir), ("a-b", Kind::File), ("b", Kind::File)];
+    for (item, (name, kind)) in items.iter().zip(listed) {
+        is_item(rt, item, name, kind);
+    }
 }
 
 fn moves(rt: &impl Abort, alloc: Global, files: &mut MemFiles, is: bool) {
