@@ -1,4 +1,4 @@
-//! Rows of keys and pointers. This library has tests and nothing else.
+//! Rows of keys, pointers and location logs. This library has tests and nothing else.
 #![tactic(auto)]
 
 #[cfg(test)]

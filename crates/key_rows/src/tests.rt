@@ -1,4 +1,6 @@
 // Keys, pointers and hash directories beside texts worked by hand.
+mod logs;
+
 use annex_keys::{
     Backend, KeyErr, from_text, hash_dir, key_of, matches, pointer_text, read_pointer, reread_key,
     reread_pointer, rewrite_key, to_text,

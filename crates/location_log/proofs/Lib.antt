@@ -1,0 +1,10 @@
+pub mod Best
+pub mod CutTexts
+pub mod Logs
+pub mod Merging
+pub mod Noted
+pub mod Orders
+pub mod Printed
+pub mod Readings
+pub mod Sorted
+pub mod TimeTexts

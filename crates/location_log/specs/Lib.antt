@@ -1,0 +1,10 @@
+pub mod All
+pub mod Counting
+pub mod Laws
+pub mod Newest
+pub mod Noting
+pub mod Plain
+pub mod Printing
+pub mod Reading
+pub mod Steps
+pub mod Texts
