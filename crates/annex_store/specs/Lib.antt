@@ -1,0 +1,6 @@
+pub mod All
+pub mod Contents
+pub mod Layout
+pub mod Logs
+pub mod Places
+pub mod Setting

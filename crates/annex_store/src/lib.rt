@@ -1,0 +1,13 @@
+//! The contents that a repository keeps under their keys, and the logs of who has them.
+#![tactic(auto)]
+
+mod contents;
+mod layout;
+mod limits;
+mod logs;
+mod setting;
+
+pub use contents::{content, has};
+pub use limits::{CONTENT_LIMIT, LOG_LIMIT};
+pub use logs::log_of;
+pub use setting::set_log;
