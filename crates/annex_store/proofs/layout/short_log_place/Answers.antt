@@ -1,4 +1,5 @@
-use Rattle.std.proofs.Common.{rules, ◌≡◌, ◌++◌, length, ap, arith, ◌∙◌}
+use Rattle.std.proofs.Common.{rules, ◌≡◌, ◌++◌, length, ap, arith, subst, ◌∙◌}
+use Rattle.std.specs.Prelude.{IfOk}
 use Rattle.places.specs.All.{Names, is_path, pieces}
 use Rattle.places.proofs.Cuts.{base_le}
 use Rattle.annex_store.specs.Places.{log_path}
@@ -14,3 +15,8 @@ pub below-requires-clause-fits : goal.below-requires-clause-fits
 below-requires-clause-fits c =
     let text : c.as_str.result.now ≡ log_path c.args.key.now = search rules in
     omega (arith, base_le c.args.repo.now, ap length text, log_path_size c.args.key.now c.in_ok-path.ensures.stored)
+
+pub returns : goal.returns
+returns c =
+    let text : c.as_str.result.now ≡ log_path c.args.key.now = search rules in
+    subst (λ (names : Names). IfOk c.below.result (λ place. place ≡ c.args.repo.now ++ names)) (ap pieces text ∙ log_pieces c.args.key.now c.in_ok-path.ensures.stored) c.below.ensures
