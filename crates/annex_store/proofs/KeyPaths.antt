@@ -257,6 +257,11 @@ pub log_is_path : (key : PlainKey) → IsKey key → is_path (log_path key) ≡ 
 unfolding is_path is_name
 log_is_path key h = ap (list_all is_name) (log_pieces key h) ∙ all_named key (log_name key) (log_file key h)
 
+pub content_path_size : (key : PlainKey) → IsKey key → length (content_path key) ≤ 140
+content_path_size key h =
+    let name = (key_name key h).size in
+    omega (arith, name, dir_size key, length-append (hash_dir key) (47 ∷ key_text key))
+
 pub log_path_size : (key : PlainKey) → IsKey key → length (log_path key) ≤ 128
 log_path_size key h =
     let name = (log_file key h).size in

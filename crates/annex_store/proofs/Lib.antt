@@ -1,3 +1,4 @@
 pub mod Fitting
 pub mod KeyPaths
+pub mod Keeps
 pub mod Sets

@@ -46,7 +46,7 @@ can_replace repo tmp place bytes is at_tmp differ = record { routes = routes; ap
         ap (λ (z : Replacement). is_tmp z.tmp) (sym same) ∙ ap is_tmp at_tmp ∙ repo_tmp repo (decimal 0) is
     routes (suc i) r at = absurd (cc at)
 
-block_log : (tells : Bool) (repo : Names) (fault : Fault) → MayBlock tells fault → MaySetLog tells repo fault
+pub block_log : (tells : Bool) (repo : Names) (fault : Fault) → MayBlock tells fault → MaySetLog tells repo fault
 block_log tells repo (Blocked at) may = may
 block_log tells repo fault may = absurd may
 

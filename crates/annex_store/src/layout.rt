@@ -34,8 +34,8 @@ fn directories(alloc: Global, key: &Key) -> Result<Text, AllocError>
     }
 }
 
-// The text of a key.
-fn key_text(alloc: Global, key: &Key) -> Result<Text, AllocError>
+/// The text of a key.
+pub(crate) fn key_text(alloc: Global, key: &Key) -> Result<Text, AllocError>
     ensures text { IfOk result (λ text. text ≡ key_text key.now) }
     ensures stored { OnOk result (IsKey key.now) }
 {
@@ -91,5 +91,18 @@ pub(crate) fn short_log_place(alloc: Global, repo: &Place, key: &Key) -> Result<
     ensures { IfOk result (λ place. place ≡ log_place repo.now key.now) }
 {
     let path = log_path(alloc, key)?;
+    repo.below(alloc, path.as_str())
+}
+
+/// Where the content of a key stands in a repository in which something may be written.
+pub(crate) fn short_content_place(
+    alloc: Global,
+    repo: &Place,
+    key: &Key,
+) -> Result<Place, AllocError>
+    requires { length (text_of repo.now) ≤ repo_limit }
+    ensures { IfOk result (λ place. place ≡ content_place repo.now key.now) }
+{
+    let path = content_path(alloc, key)?;
     repo.below(alloc, path.as_str())
 }

@@ -2,12 +2,14 @@
 #![tactic(auto)]
 
 mod contents;
+mod keeping;
 mod layout;
 mod limits;
 mod logs;
 mod setting;
 
 pub use contents::{content, has};
+pub use keeping::keep;
 pub use limits::{CONTENT_LIMIT, LOG_LIMIT};
 pub use logs::log_of;
 pub use setting::set_log;
