@@ -121,14 +121,14 @@ written (b ∷ bs) h =
     λ i. digit_written (b / 16) (omega arith) i && (digit_written (b % 16) (omega arith) i && written bs p.1 i)
 
 -- the digits that name a key's directories
-abbrev hash_digits : PlainKey → List ℕ
+abbrev pub hash_digits : PlainKey → List ℕ
 hash_digits key = encode_lower (md5 (key_text key))
 
 digits_size : (key : PlainKey) → length (hash_digits key) ≡ 32
 digits_size key = omega (arith, digits_long (md5 (key_text key)), length-md5 (key_text key))
 
 -- three of them are a name
-record IsDir (n : List ℕ) : Type 0 where
+pub record IsDir (n : List ℕ) : Type 0 where
   pub name : is_name n ≡ true
   pub whole : list_any (λ b. b == slash) n ≡ false
   pub size : length n ≡ 3
@@ -141,7 +141,7 @@ three (b ∷ n) size h =
     let first : (b == 46) ≡ false = grind (arith, nat_tests, digit) in
     record { name = plain_name b n first (omega arith) plain; whole = no_slash (b ∷ n) plain; size = size }
 
-first_dir : (key : PlainKey) → IsDir (take 3 (hash_digits key))
+pub first_dir : (key : PlainKey) → IsDir (take 3 (hash_digits key))
 first_dir key =
     let size = digits_size key in
     three (take 3 (hash_digits key)) (length-take-le 3 (hash_digits key) (omega arith))
@@ -164,7 +164,7 @@ dir_size key =
     let two = (second_dir key).size in
     omega (arith, ap length (hash_dir_is key), length-append (take 3 (hash_digits key)) (47 ∷ take 3 (drop 3 (hash_digits key))), one, two)
 
-dir_pieces : (key : PlainKey) → pieces (hash_dir key) ≡ take 3 (hash_digits key) ∷ take 3 (drop 3 (hash_digits key)) ∷ []
+pub dir_pieces : (key : PlainKey) → pieces (hash_dir key) ≡ take 3 (hash_digits key) ∷ take 3 (drop 3 (hash_digits key)) ∷ []
 dir_pieces key =
     ap pieces (hash_dir_is key)
     ∙ pieces-append (take 3 (hash_digits key)) (take 3 (drop 3 (hash_digits key)))

@@ -2,6 +2,7 @@
 pub use Rattle.annex_store.specs.Contents.{ContentReads, IsContent, IsContentIn, IsLargeContent}
 pub use Rattle.annex_store.specs.Contents.{IsRead, LookReads, MatchesFound, MayLook, MayRead}
 pub use Rattle.annex_store.specs.Contents.{bytes_of, content_fault, content_limit, size_fault}
+pub use Rattle.annex_store.specs.Honest.{IsHonest, KeepIsHonest, Stands, StaysHonest, WasOpenThere}
 pub use Rattle.annex_store.specs.Keeping.{IsFull, IsFullFault, IsKeep, IsKeepFault, IsNotedHere}
 pub use Rattle.annex_store.specs.Keeping.{IsToNote, KeepEnds, MayKeep, has_bytes, puts_unless}
 pub use Rattle.annex_store.specs.Keeping.{sets_note}

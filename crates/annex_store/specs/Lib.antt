@@ -1,5 +1,6 @@
 pub mod All
 pub mod Contents
+pub mod Honest
 pub mod Keeping
 pub mod Layout
 pub mod Logs

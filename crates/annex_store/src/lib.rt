@@ -3,6 +3,7 @@
 
 mod contents;
 mod keeping;
+mod laws;
 mod layout;
 mod limits;
 mod logs;
@@ -10,6 +11,7 @@ mod setting;
 
 pub use contents::{content, has};
 pub use keeping::keep;
+pub use laws::keep_is_honest;
 pub use limits::{CONTENT_LIMIT, LOG_LIMIT};
 pub use logs::log_of;
 pub use setting::set_log;
