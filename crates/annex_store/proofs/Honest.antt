@@ -19,8 +19,8 @@ use Rattle.repository.proofs.Temporary.{outside_apart}
 use Rattle.acts.specs.All.{Act, Breaks, Ending, Event, Gives, IsFirm, Refuses, Step, bind, ending_of, gives, go_on, last_of, put_act, puts, rounds_in, rounds_of, unless, whole_round}
 use Rattle.acts.specs.Acts.{still as still_act}
 use Rattle.acts.proofs.Come.{rounds_of-append}
-use Rattle.annex_store.specs.Honest.{IsHonest, KeepIsHonest, Stands}
-use Rattle.annex_store.specs.Keeping.{has_bytes, keeps, puts_unless, sets_content, sets_note}
+use Rattle.annex_store.specs.Honest.{IsHonest, KeepIsHonest}
+use Rattle.annex_store.specs.Keeping.{IsKeep, has_bytes, keeps, puts_unless, sets_content, sets_note}
 use Rattle.annex_store.specs.Layout.{content_place, log_name, log_place, content_names, log_names}
 use Rattle.annex_store.specs.Logs.{IsLogIn}
 use Rattle.annex_store.specs.Setting.{long_repo, puts_one, sets_log}
@@ -228,10 +228,13 @@ module _ (repo : Names) (uuid : List ℕ) (key : PlainKey) (bytes : List ℕ) (m
   unfolding keeps bind
   keep_fair note g = then_fair (sets_content repo key bytes g) _ g (sets_note repo key note) refl (set_fair g) (set_has g) (λ h has. note_fair h note has)
 
+  kept_fair : (moment : ℕ) (act : Act (Unit {0})) (g : Ground) → IsKeep repo uuid key bytes moment g act → IsFair act g
+  kept_fair moment act g (inl (fault, why, is)) = subst (λ (a : Act (Unit {0})). IsFair a g) (sym is) (record { fair = tt; tight = λ q. refl })
+  kept_fair moment act g (inr (note, to, is)) = subst (λ (a : Act (Unit {0})). IsFair a g) (sym is) (keep_fair note g)
+
 pub honest : KeepIsHonest
-honest repo uuid key bytes note old new matching was goes =
-    let act = keeps repo key bytes note (present old) in
-    let fair = keep_fair repo uuid key bytes matching note (present old) in
+honest repo uuid key bytes moment act old new matching kept was goes =
+    let fair = kept_fair repo uuid key bytes matching moment act (present old) kept in
     let firm_c : IsFirm act.loose (content_place repo key) = record { outside = content_firm repo key; firm = fair.tight (content_place repo key) } in
     let firm_l : IsFirm act.loose (log_place repo key) = record { outside = log_firm repo key; firm = fair.tight (log_place repo key) } in
     weaken (λ d lies. (

@@ -203,8 +203,14 @@ rest_size key h =
     let groups = dotted_size h.ext.groups h.ext.each in
     let ext : length key.ext ≤ 10 = omega (arith, ap length h.ext.printed, groups, few) in
     let size : length (decimal key.size) ≤ 20 = length-decimal-le 20 key.size (omega arith) (omega (arith, h.size)) h.size in
-    omega (arith, ext, size, length_digits key.digest h.digest, length-append (encode_lower key.digest) key.ext,
-    length-append (decimal key.size) (codes "--" ++ (encode_lower key.digest ++ key.ext)))
+    omega (
+      arith,
+      ext,
+      size,
+      length_digits key.digest h.digest,
+      length-append (encode_lower key.digest) key.ext,
+      length-append (decimal key.size) (codes "--" ++ (encode_lower key.digest ++ key.ext)),
+    )
 
 -- a file's name: a key's text, and what is put behind it
 record IsFileName (n : List ℕ) : Type 0 where

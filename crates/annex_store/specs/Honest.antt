@@ -4,8 +4,8 @@ use Rattle.places.specs.All.{Names, Ground, file_at}
 use Rattle.file_store.specs.All.{Disk, Drive, IsImage, Since, WasOpen, present}
 use Rattle.annex_keys.specs.All.{Matches, PlainKey}
 use Rattle.location_log.specs.All.{IsPresent, PlainLine}
-use Rattle.acts.specs.All.{Moments}
-use Rattle.annex_store.specs.Keeping.{keeps}
+use Rattle.acts.specs.All.{Act, Moments}
+use Rattle.annex_store.specs.Keeping.{IsKeep}
 use Rattle.annex_store.specs.Layout.{content_place, log_place}
 use Rattle.annex_store.specs.Logs.{IsLogIn}
 
@@ -33,11 +33,11 @@ StaysHonest repo uuid key start d =
     IsHonest repo uuid key d.now
     × ((x : Ground) → IsImage d x → IsHonest repo uuid key x ⊎ WasOpenThere start repo key x)
 
--- At every moment of a keeping, whatever is noted, a log that was honest is so.
+-- At every moment of each act that a keeping may be, a log that was honest is so.
 abbrev pub KeepIsHonest : Type 0
 KeepIsHonest =
-    (repo : Names) (uuid : List ℕ) (key : PlainKey) (bytes : List ℕ)
-    (note : Option (List PlainLine)) (old new : Drive) → Matches key bytes
-    → IsHonest repo uuid key (present old)
-    → Moments (keeps repo key bytes note (present old)) old new
+    (repo : Names) (uuid : List ℕ) (key : PlainKey) (bytes : List ℕ) (moment : ℕ)
+    (act : Act (Unit {0})) (old new : Drive) → Matches key bytes
+    → IsKeep repo uuid key bytes moment (present old) act → IsHonest repo uuid key (present old)
+    → Moments act old new
     → Since (λ d. StaysHonest repo uuid key old.history.latest d) old.history new.history

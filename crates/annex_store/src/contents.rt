@@ -14,12 +14,7 @@ use std::alloc::Global;
 /// Whether a file stands at the place of the key's content. It isn't read.
 ///
 /// Refuses TooLarge of that place.
-pub fn has<F: Files>(
-    alloc: Global,
-    files: &mut F,
-    repo: &Place,
-    key: &Key,
-) -> Result<bool, Trouble>
+pub fn has<F: Files>(alloc: Global, files: &mut F, repo: &Place, key: &Key) -> Result<bool, Trouble>
     ensures { LookReads F.tells repo.now key.now (F.drive files.old) (F.drive files.new) result }
 {
     let place = content_place(alloc, repo, key)?;

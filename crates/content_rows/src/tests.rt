@@ -12,12 +12,15 @@ use uuid::Uuid;
 const REPO: &str = "/r/.dlrepo";
 
 // `printf 'hello\n' | sha256sum`
-const KEY: &str = "SHA256E-s6--5891b5b522d5df086d0ff0b110fbd9d21bb4fc7163af34d08286a2e846f6be03.txt";
+const KEY: &str =
+    "SHA256E-s6--5891b5b522d5df086d0ff0b110fbd9d21bb4fc7163af34d08286a2e846f6be03.txt";
 
 // The first six digits of the MD5 of that text are d91b11.
-const CONTENT: &str = "/r/.dlrepo/annex/objects/d91/b11/SHA256E-s6--5891b5b522d5df086d0ff0b110fbd9d21bb4fc7163af34d08286a2e846f6be03.txt";
+const CONTENT: &str =
+    "/r/.dlrepo/annex/objects/d91/b11/SHA256E-s6--5891b5b522d5df086d0ff0b110fbd9d21bb4fc7163af34d08286a2e846f6be03.txt";
 
-const LOG: &str = "/r/.dlrepo/annex/logs/d91/b11/SHA256E-s6--5891b5b522d5df086d0ff0b110fbd9d21bb4fc7163af34d08286a2e846f6be03.txt.log";
+const LOG: &str =
+    "/r/.dlrepo/annex/logs/d91/b11/SHA256E-s6--5891b5b522d5df086d0ff0b110fbd9d21bb4fc7163af34d08286a2e846f6be03.txt.log";
 
 const OWN: &str = "490cbdc2-0d82-5cbd-94d8-aba5bedae8d0";
 
@@ -76,7 +79,15 @@ fn log_text(rt: &impl Abort, alloc: Global, files: &mut MemFiles) -> String {
 
 fn keep_hello(rt: &impl Abort, alloc: Global, files: &mut MemFiles) -> Result<(), Trouble> {
     let repo = place(rt, alloc, REPO);
-    keep(alloc, files, &repo, &own(rt), &key(rt, alloc), b"hello\n", 7)
+    keep(
+        alloc,
+        files,
+        &repo,
+        &own(rt),
+        &key(rt, alloc),
+        b"hello\n",
+        7,
+    )
 }
 
 #[test]
@@ -172,7 +183,10 @@ fn logs_that_are_set(rt: HostRuntime) {
     let alloc = rt.alloc();
     let repo = place(&rt, alloc, REPO);
     let mut files = files_with(&rt, alloc, "", "");
-    assert_eq!(&rt; read_log(&rt, alloc, &mut files).expect(&rt, "a log").len(), 0);
+    assert_eq!(&rt;
+        read_log(&rt, alloc, &mut files).expect(&rt, "a log").len(),
+        0
+    );
     let lines = read(alloc, OTHER.as_bytes()).expect(&rt, "a log");
     let set = set_log(alloc, &mut files, &repo, &key(&rt, alloc), lines.as_slice());
     assert!(&rt; set.is_ok());
