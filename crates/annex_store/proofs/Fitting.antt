@@ -1,12 +1,12 @@
 -- Places that are longer than places are, files that are larger than they may be, and the refusals of both.
-use Rattle.std.proofs.Common.{◌≡◌, ◌≤◌, ◌<◌, ◌+◌, ℕ, Bool, true, false, cond, List, ◌++◌, length, Option, Some, None, refl, sym, ap, subst, ◌∙◌, arith}
+use Rattle.std.proofs.Common.{◌≡◌, ◌≤◌, ◌<◌, ℕ, Bool, true, false, cond, List, length, Some, None, refl, sym, ap, subst, ◌∙◌, arith}
 use Rattle.std.specs.Prelude.{nat_lt}
 use Rattle.std.proofs.lemmas.Bool.{lt-ltb, le-ltb, ltb-true}
 use Rattle.places.specs.All.{Names, text_of, longest}
 use Rattle.faults.specs.declared.faults.Fault.{Fault}
 use Rattle.faults.specs.declared.faults.Fault.TheVariants.{TooLarge}
 use Rattle.repository.specs.All.{large}
-use Rattle.annex_store.specs.Places.{IsLong, IsOver, long_place, over_fault}
+use Rattle.annex_store.specs.Places.{IsLong, long_place, over_fault}
 
 pub same_fault : (a b : Fault) → Some a ≡ Some b → a ≡ b
 same_fault a b e = cc e

@@ -3,20 +3,20 @@ use Rattle.std.proofs.Common.{◌≡◌, ◌≢◌, ◌⊎◌, inl, inr, ⊎_eli
 use Rattle.std.specs.Prelude.{bytes_eq, codes}
 use Rattle.std.proofs.lemmas.Bool.{false_from_ne_true}
 use Rattle.std.proofs.lemmas.Slice.Eq.{bytes_eq-Decides}
-use Rattle.places.specs.All.{Names, Ground, file_at, pieces}
+use Rattle.places.specs.All.{Names, Ground, file_at}
 use Rattle.places.proofs.Above.{same_rest}
-use Rattle.file_store.specs.All.{Round, with_file, changed, finally, WasOpen, IsAlong, IsBetween, present, only, same_file, still, here, there, first_shut, block_of}
+use Rattle.file_store.specs.All.{Round, with_file, changed, finally, WasOpen, IsAlong, IsBetween, present, only, same_file, still, here, there}
 use Rattle.file_store.specs.declared.replacing.Replacement.{Replacement}
 use Rattle.file_store.proofs.Consequences.{Nothing, now_along, image_along}
 use Rattle.file_store.proofs.Moments.{weaken}
 use Rattle.file_store.proofs.Rounds.{with_file_same, with_file_other}
 use Rattle.faults.specs.declared.faults.Fault.{Fault}
-use Rattle.annex_keys.specs.All.{Matches, PlainKey, hash_dir}
-use Rattle.location_log.specs.All.{IsPresent, PlainLine, log_text}
+use Rattle.annex_keys.specs.All.{Matches, PlainKey}
+use Rattle.location_log.specs.All.{PlainLine, log_text}
 use Rattle.repository.specs.All.{dlrepo, is_tmp, is_single, tmp_place}
 use Rattle.repository.specs.Unfinished.{is_below_tmp}
 use Rattle.repository.proofs.Temporary.{outside_apart}
-use Rattle.acts.specs.All.{Act, Breaks, Ending, Event, Gives, IsFirm, Refuses, Step, bind, ending_of, gives, go_on, last_of, put_act, puts, rounds_in, rounds_of, unless, whole_round}
+use Rattle.acts.specs.All.{Act, Breaks, Ending, Gives, IsFirm, Refuses, Step, bind, ending_of, gives, go_on, last_of, put_act, puts, rounds_in, unless, whole_round}
 use Rattle.acts.specs.Acts.{still as still_act}
 use Rattle.acts.proofs.Come.{rounds_of-append}
 use Rattle.annex_store.specs.Honest.{IsHonest, KeepIsHonest}
@@ -25,7 +25,7 @@ use Rattle.annex_store.specs.Layout.{content_place, log_name, log_place, content
 use Rattle.annex_store.specs.Logs.{IsLogIn}
 use Rattle.annex_store.specs.Setting.{long_repo, puts_one, sets_log}
 use Rattle.annex_keys.specs.All.{key_text}
-use Rattle.annex_store.proofs.KeyPaths.{IsDir, dir_pieces, first_dir, hash_digits}
+use Rattle.annex_store.proofs.KeyPaths.{dir_pieces, first_dir}
 use Rattle.annex_store.proofs.Sets.{annex_outside}
 
 -- ---- what stands in `annex` is no unfinished write of any repository

@@ -1,5 +1,5 @@
 -- A content as it is kept: its exits.
-use Rattle.std.proofs.Common.{inl, inr, ◌≡◌, ◌≤◌, ◌<◌, ℕ, Bool, true, false, IsTrue, List, [], length, Option, Some, None, Result, Ok, Err, Vec, refl, sym, ap, ◌∙◌, subst, arith}
+use Rattle.std.proofs.Common.{inl, inr, ◌≡◌, ◌≤◌, ◌<◌, ℕ, Bool, true, false, IsTrue, List, length, Option, Some, None, Result, Ok, Err, Vec, refl, sym, ap, ◌∙◌, subst, arith}
 use Rattle.std.specs.declared.alloc.Global.{Global}
 use Rattle.places.specs.All.{Names, text_of}
 use Rattle.file_store.specs.All.{Drive, GoesAlong, present, only, ReplaceEnds, Counts, has_failed}
@@ -13,14 +13,14 @@ use Rattle.annex_keys.specs.All.{PlainKey}
 use Rattle.location_log.specs.All.{IsPresent, PlainLine}
 use Rattle.location_log.specs.declared.lines.LogLine.{LogLine}
 use Rattle.repository.specs.All.{tmp_place, repo_limit, is_repo}
-use Rattle.acts.specs.All.{Acts, ActsQuietly, gives, puts, unless}
+use Rattle.acts.specs.All.{ActsQuietly, gives, puts}
 use Rattle.acts.proofs.As.{as_allowed, as_refused, as_starved, as_unread}
 use Rattle.acts.proofs.Laws.{after_reading, done, failed_early, fails, handed, passes_on, same_act, seq, starved_early, stops_on}
 use Rattle.acts.proofs.Replaces.{replaces, in_trouble}
-use Rattle.annex_store.specs.Keeping.{BytesRead, IsKeep, IsNotedHere, KeepEnds, MayKeep, NoteEnds, has_bytes, keeps, puts_unless, sets_content}
+use Rattle.annex_store.specs.Keeping.{BytesRead, IsNotedHere, KeepEnds, MayKeep, NoteEnds, has_bytes, keeps, puts_unless, sets_content}
 use Rattle.annex_store.specs.Layout.{content_place}
 use Rattle.annex_store.specs.Logs.{LogReads, MayReadLog}
-use Rattle.annex_store.specs.Setting.{MaySetLog, long_repo, puts_one, sets_log}
+use Rattle.annex_store.specs.Setting.{MaySetLog, long_repo, sets_log}
 use Rattle.annex_store.proofs.Sets.{annex_apart, block_log, can_replace, fits_is, long_is}
 
 -- ---- the exits of a set content

@@ -1,8 +1,8 @@
 -- A log as it is set: a limit, and one file that is put.
-use Rattle.std.proofs.Common.{◌≡◌, ◌≢◌, ◌≤◌, ◌<◌, ℕ, zero, suc, Bool, true, false, cond, IsTrue, List, [], ◌∷◌, ◌++◌, length, Option, Some, None, Result, Ok, Err, refl, sym, ap, ◌∙◌, subst, arith}
+use Rattle.std.proofs.Common.{◌≡◌, ◌≢◌, ◌≤◌, ◌<◌, ℕ, zero, suc, Bool, true, false, cond, IsTrue, List, ◌∷◌, ◌++◌, length, Some, None, Result, Err, refl, sym, ap, ◌∙◌, subst, arith}
 use Rattle.std.specs.Prelude.{codes, decimal, slice_get}
 use Rattle.std.proofs.lemmas.Bool.{lt-ltb, le-ltb}
-use Rattle.places.specs.All.{Names, text_of, pieces}
+use Rattle.places.specs.All.{Names, text_of}
 use Rattle.file_store.specs.All.{Drive, GoesAlong, present, only, ReplaceEnds, Counts, has_failed}
 use Rattle.file_store.specs.All.{IsNoTmp, replacing}
 use Rattle.file_store.specs.declared.errors.FileErr.{FileErr}
@@ -12,7 +12,7 @@ use Rattle.faults.specs.declared.faults.Fault.{Fault}
 use Rattle.faults.specs.declared.faults.Trouble.{Trouble}
 use Rattle.faults.specs.declared.faults.Fault.TheVariants.{TooLarge, Blocked}
 use Rattle.faults.specs.declared.faults.Trouble.TheVariants.{Refused}
-use Rattle.annex_keys.specs.All.{PlainKey, hash_dir}
+use Rattle.annex_keys.specs.All.{PlainKey}
 use Rattle.location_log.specs.All.{PlainLine, log_text}
 use Rattle.repository.specs.All.{tmp_place, tmp_names, in_tmp, repo_limit, large, is_tmp, is_repo}
 use Rattle.repository.proofs.Temporary.{outside_apart}
@@ -20,7 +20,7 @@ use Rattle.repository.proofs.Unfinished.{repo_tmp, is_in-under}
 use Rattle.acts.specs.All.{ActsQuietly, puts, CanReplace, MayBlock}
 use Rattle.acts.proofs.Laws.{seq, fails, handed, passes_on, stops_on, same_act}
 use Rattle.acts.proofs.Replaces.{replaces, in_trouble}
-use Rattle.annex_store.specs.Layout.{content_names, content_place, log_names, log_place}
+use Rattle.annex_store.specs.Layout.{log_place}
 use Rattle.annex_store.specs.Setting.{MaySetLog, long_repo, puts_one, sets_log}
 
 -- what stands in `annex` is no temporary file

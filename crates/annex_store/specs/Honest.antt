@@ -1,5 +1,5 @@
 -- The honest log: it doesn't say that a repository has a content that doesn't stand.
-use Rattle.std.specs.Prelude.{◌≡◌, ◌⊎◌, ℕ, List, Option, Some}
+use Rattle.std.specs.Prelude.{◌≡◌, ◌⊎◌, ℕ, List, Some}
 use Rattle.places.specs.All.{Names, Ground, file_at}
 use Rattle.file_store.specs.All.{Disk, Drive, IsImage, Since, WasOpen, present}
 use Rattle.annex_keys.specs.All.{Matches, PlainKey}

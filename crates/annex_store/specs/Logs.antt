@@ -1,9 +1,9 @@
 -- Which log a repository keeps of a key, and why it isn't read.
-use Rattle.std.specs.Prelude.{◌≡◌, ◌⊎◌, ◌≤◌, ℕ, Bool, List, [], length, Option, Some, None, Vec, Result}
+use Rattle.std.specs.Prelude.{◌≡◌, ◌⊎◌, ℕ, Bool, List, [], length, Option, Some, None, Vec, Result}
 use Rattle.std.specs.Prelude.{Ok, Err, option_map}
 use Rattle.std.specs.declared.alloc.Global.{Global}
 use Rattle.places.specs.All.{Names, Ground, file_at}
-use Rattle.file_store.specs.All.{Drive, or_next}
+use Rattle.file_store.specs.All.{Drive}
 use Rattle.faults.specs.declared.faults.Fault.{Fault}
 use Rattle.faults.specs.declared.faults.Trouble.{Trouble}
 use Rattle.faults.specs.declared.faults.Fault.TheVariants.{BadLog, TooLarge}

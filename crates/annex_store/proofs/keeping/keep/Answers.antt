@@ -1,4 +1,4 @@
-use Rattle.std.proofs.Common.{◌≡◌, ℕ, List, Option, Some, None, Ok, Err, Vec, ap, subst, sym}
+use Rattle.std.proofs.Common.{List, Option, Err, Vec, subst}
 use Rattle.std.specs.declared.alloc.Global.{Global}
 use Rattle.acts.proofs.As.{as_exits}
 use Rattle.location_log.specs.All.{PlainLine}

@@ -1,4 +1,4 @@
-use Rattle.std.proofs.Common.{rules, ◌≡◌, ◌<◌, ◌≤◌, Bool, true, false, length, Ok, Err, subst}
+use Rattle.std.proofs.Common.{rules, ◌<◌, ◌≤◌, Bool, true, false, length, Ok, Err, subst}
 use Rattle.places.specs.All.{Names, text_of}
 use Rattle.acts.proofs.Laws.{exits, starved}
 use Rattle.annex_store.specs.Keeping.{BytesRead}

@@ -1,4 +1,4 @@
-use Rattle.std.proofs.Common.{rules, ◌≡◌, ◌++◌, ap, sym, subst, ◌∙◌}
+use Rattle.std.proofs.Common.{rules, ◌≡◌, ◌++◌, ap, subst, ◌∙◌}
 use Rattle.places.specs.All.{Names, is_path, pieces}
 use Rattle.annex_store.specs.Places.{IsPlaced, content_path}
 use Rattle.annex_store.proofs.KeyPaths.{content_is_path, content_pieces}

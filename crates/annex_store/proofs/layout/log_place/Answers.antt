@@ -1,4 +1,4 @@
-use Rattle.std.proofs.Common.{rules, ◌≡◌, ◌++◌, ap, sym, subst, ◌∙◌}
+use Rattle.std.proofs.Common.{rules, ◌≡◌, ◌++◌, ap, subst, ◌∙◌}
 use Rattle.places.specs.All.{Names, is_path, pieces}
 use Rattle.annex_store.specs.Places.{IsPlaced, log_path}
 use Rattle.annex_store.proofs.KeyPaths.{log_is_path, log_pieces}

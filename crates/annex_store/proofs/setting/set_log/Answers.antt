@@ -1,4 +1,4 @@
-use Rattle.std.proofs.Common.{rules, ◌≡◌, ◌<◌, ◌≤◌, None, length, Ok, Err}
+use Rattle.std.proofs.Common.{rules, ◌≡◌, ◌<◌, ◌≤◌, length, Ok, Err}
 use Rattle.places.specs.All.{text_of}
 use Rattle.acts.proofs.Laws.{exits, starved}
 use Rattle.location_log.specs.All.{log_text}
