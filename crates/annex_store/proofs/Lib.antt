@@ -1,0 +1,5 @@
+pub mod Fitting
+pub mod Honest
+pub mod KeyPaths
+pub mod Keeps
+pub mod Sets

@@ -1,0 +1,197 @@
+// Contents and logs of keys: what is kept and what is read of it.
+use annex_keys::{Key, from_text};
+use annex_store::{LOG_LIMIT, content, has, keep, log_of, set_log};
+use faults::{Fault, Trouble};
+use file_store::{Files, MemFiles};
+use location_log::{LogLine, present, print, read};
+use places::Place;
+use std::alloc::Global;
+use std::process::Abort;
+use uuid::Uuid;
+
+const REPO: &str = "/r/.dlrepo";
+
+// `printf 'hello\n' | sha256sum`
+const KEY: &str =
+    "SHA256E-s6--5891b5b522d5df086d0ff0b110fbd9d21bb4fc7163af34d08286a2e846f6be03.txt";
+
+// The first six digits of the MD5 of that text are d91b11.
+const CONTENT: &str =
+    "/r/.dlrepo/annex/objects/d91/b11/SHA256E-s6--5891b5b522d5df086d0ff0b110fbd9d21bb4fc7163af34d08286a2e846f6be03.txt";
+
+const LOG: &str =
+    "/r/.dlrepo/annex/logs/d91/b11/SHA256E-s6--5891b5b522d5df086d0ff0b110fbd9d21bb4fc7163af34d08286a2e846f6be03.txt.log";
+
+const OWN: &str = "490cbdc2-0d82-5cbd-94d8-aba5bedae8d0";
+
+const OTHER: &str = "5s 1 01234567-89ab-5cde-8f01-23456789abcd\n";
+
+fn place(rt: &impl Abort, alloc: Global, text: &str) -> Place {
+    Place::parse(alloc, text).expect(rt, "a place")
+}
+
+fn key(rt: &impl Abort, alloc: Global) -> Key {
+    from_text(alloc, KEY).expect(rt, "a key")
+}
+
+fn own(rt: &impl Abort) -> Uuid {
+    Uuid::try_parse_ascii(OWN.as_bytes()).expect(rt, "a uuid")
+}
+
+// Files with this content and this log, each where it isn't empty.
+fn files_with(rt: &impl Abort, alloc: Global, content: &str, log: &str) -> MemFiles {
+    let mut list = Vec::new(alloc);
+    for (at, text) in [(CONTENT, content), (LOG, log)] {
+        if !text.is_empty() {
+            let bytes = text.as_bytes().to_vec(alloc).expect(rt, "memory");
+            let pushed = list.push((place(rt, alloc, at), bytes));
+            assert!(rt; pushed.is_ok());
+        }
+    }
+    MemFiles::from_list(alloc, list).expect(rt, "files")
+}
+
+// The content that is read, as text; "none" where none is.
+fn read_content(rt: &impl Abort, alloc: Global, files: &mut MemFiles) -> String {
+    let repo = place(rt, alloc, REPO);
+    match content(alloc, files, &repo, &key(rt, alloc)).expect(rt, "read") {
+        Some(bytes) => String::from_utf8(bytes).expect(rt, "a text"),
+        None => String::from_str(alloc, "none").expect(rt, "memory"),
+    }
+}
+
+fn stands(rt: &impl Abort, alloc: Global, files: &mut MemFiles) -> bool {
+    let repo = place(rt, alloc, REPO);
+    has(alloc, files, &repo, &key(rt, alloc)).expect(rt, "a look")
+}
+
+fn read_log(rt: &impl Abort, alloc: Global, files: &mut MemFiles) -> Result<Vec<LogLine>, Trouble> {
+    let repo = place(rt, alloc, REPO);
+    log_of(alloc, files, &repo, &key(rt, alloc))
+}
+
+// The bytes of the log's file.
+fn log_text(rt: &impl Abort, alloc: Global, files: &mut MemFiles) -> String {
+    let at = place(rt, alloc, LOG);
+    let found = files.read(alloc, &at).expect(rt, "read");
+    String::from_utf8(found.expect(rt, "a file")).expect(rt, "a text")
+}
+
+fn keep_hello(rt: &impl Abort, alloc: Global, files: &mut MemFiles) -> Result<(), Trouble> {
+    let repo = place(rt, alloc, REPO);
+    keep(
+        alloc,
+        files,
+        &repo,
+        &own(rt),
+        &key(rt, alloc),
+        b"hello\n",
+        7,
+    )
+}
+
+#[test]
+fn contents_that_are_read(rt: HostRuntime) {
+    let alloc = rt.alloc();
+    let rows = [
+        ("hello\n", "hello\n", true),
+        ("hallo\n", "none", true),
+        ("hello", "none", true),
+        ("hello\n\n", "none", true),
+        ("", "none", false),
+    ];
+    for (stored, want, there) in rows {
+        let mut files = files_with(&rt, alloc, stored, "");
+        assert_eq!(&rt; read_content(&rt, alloc, &mut files).as_str(), want);
+        assert_eq!(&rt; stands(&rt, alloc, &mut files), there);
+    }
+}
+
+#[test]
+fn contents_that_are_kept(rt: HostRuntime) {
+    let alloc = rt.alloc();
+    for stored in ["", "hallo\n", "hello\n"] {
+        let mut files = files_with(&rt, alloc, stored, OTHER);
+        let kept = keep_hello(&rt, alloc, &mut files);
+        assert!(&rt; kept.is_ok());
+        assert_eq!(&rt; read_content(&rt, alloc, &mut files).as_str(), "hello\n");
+        let want = format!(in alloc; "{OTHER}7s 1 {OWN}\n").expect(&rt, "memory");
+        assert_eq!(&rt; log_text(&rt, alloc, &mut files).as_str(), want.as_str());
+    }
+}
+
+#[test]
+fn kept_again(rt: HostRuntime) {
+    let alloc = rt.alloc();
+    let log = format!(in alloc; "5s 1 {OWN}\n").expect(&rt, "memory");
+    let mut files = files_with(&rt, alloc, "hello\n", log.as_str());
+    let before = files.calls();
+    let kept = keep_hello(&rt, alloc, &mut files);
+    assert!(&rt; kept.is_ok());
+
+    // two sizes and two reads, and nothing is written
+    assert_eq!(&rt; files.calls() - before, 4);
+    assert_eq!(&rt; log_text(&rt, alloc, &mut files).as_str(), log.as_str());
+}
+
+#[test]
+fn no_later_second(rt: HostRuntime) {
+    let alloc = rt.alloc();
+    let log = format!(in alloc; "18446744073709551615s 0 {OWN}\n").expect(&rt, "memory");
+    let mut files = files_with(&rt, alloc, "", log.as_str());
+    match keep_hello(&rt, alloc, &mut files) {
+        Err(Trouble::Refused(Fault::TimeFull { key })) => assert_eq!(&rt; key.as_str(), KEY),
+        _ => assert!(&rt; false),
+    }
+    assert!(&rt; !stands(&rt, alloc, &mut files));
+}
+
+#[test]
+fn bad_logs(rt: HostRuntime) {
+    let alloc = rt.alloc();
+    let log = format!(in alloc; "{OTHER}\nx\n").expect(&rt, "memory");
+    let mut files = files_with(&rt, alloc, "", log.as_str());
+    match keep_hello(&rt, alloc, &mut files) {
+        Err(Trouble::Refused(Fault::BadLog { place, line })) => {
+            assert_eq!(&rt; place.as_str(), LOG);
+            assert_eq!(&rt; line, 3);
+        }
+        _ => assert!(&rt; false),
+    }
+    assert!(&rt; !stands(&rt, alloc, &mut files));
+}
+
+#[test]
+fn large_logs(rt: HostRuntime) {
+    let alloc = rt.alloc();
+    let mut text = String::new(alloc);
+    for _ in 0..LOG_LIMIT + 1 {
+        text.push_str("\n").expect(&rt, "memory");
+    }
+    let mut files = files_with(&rt, alloc, "", text.as_str());
+    match read_log(&rt, alloc, &mut files) {
+        Err(Trouble::Refused(Fault::TooLarge { path, size })) => {
+            assert_eq!(&rt; path.as_str(), LOG);
+            assert_eq!(&rt; size, LOG_LIMIT + 1);
+        }
+        _ => assert!(&rt; false),
+    }
+}
+
+#[test]
+fn logs_that_are_set(rt: HostRuntime) {
+    let alloc = rt.alloc();
+    let repo = place(&rt, alloc, REPO);
+    let mut files = files_with(&rt, alloc, "", "");
+    assert_eq!(&rt;
+        read_log(&rt, alloc, &mut files).expect(&rt, "a log").len(),
+        0
+    );
+    let lines = read(alloc, OTHER.as_bytes()).expect(&rt, "a log");
+    let set = set_log(alloc, &mut files, &repo, &key(&rt, alloc), lines.as_slice());
+    assert!(&rt; set.is_ok());
+    let found = read_log(&rt, alloc, &mut files).expect(&rt, "a log");
+    assert!(&rt; !present(found.as_slice(), &own(&rt)));
+    let text = print(alloc, found.as_slice()).expect(&rt, "memory");
+    assert_eq!(&rt; text.as_slice(), OTHER.as_bytes());
+}
