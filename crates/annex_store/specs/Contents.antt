@@ -14,7 +14,7 @@ use Rattle.annex_store.specs.Places.{IsLong, long_place, over_fault}
 
 -- The most bytes of a content that is read.
 abbrev pub content_limit : ℕ
-content_limit = 536870912
+content_limit = 67108864
 
 -- The bytes of a file are those of the key's content; or no such bytes stand there.
 abbrev pub IsContentIn : PlainKey → Option (List ℕ) → Option (List ℕ) → Type 0

@@ -8,7 +8,7 @@ use places::{Place, Text};
 use std::alloc::{AllocError, Global};
 
 /// The most bytes of a content that is read.
-pub const CONTENT_LIMIT: u64 = 536_870_912;
+pub const CONTENT_LIMIT: u64 = 67_108_864;
 
 /// The most bytes of a log that is read.
 pub const LOG_LIMIT: u64 = 1_048_576;
