@@ -1,5 +1,5 @@
 // Contents and logs of keys: what is kept and what is read of it.
-use annex_keys::{Key, from_text};
+use annex_keys::{Key, from_text, matches};
 use annex_store::{LOG_LIMIT, content, has, keep, log_of, set_log};
 use faults::{Fault, Trouble};
 use file_store::{Files, MemFiles};
@@ -79,15 +79,53 @@ fn log_text(rt: &impl Abort, alloc: Global, files: &mut MemFiles) -> String {
 
 fn keep_hello(rt: &impl Abort, alloc: Global, files: &mut MemFiles) -> Result<(), Trouble> {
     let repo = place(rt, alloc, REPO);
-    keep(
-        alloc,
-        files,
-        &repo,
-        &own(rt),
-        &key(rt, alloc),
-        b"hello\n",
-        7,
-    )
+    let key = key(rt, alloc);
+    if !matches(&key, b"hello\n") {
+        rt.abort();
+    }
+    keep(alloc, files, &repo, &own(rt), &key, b"hello\n", 7)
+}
+
+// The fault of a refusal.
+fn fault<T: Drop>(rt: &impl Abort, end: Result<T, Trouble>) -> Fault {
+    match end {
+        Err(Trouble::Refused(fault)) => fault,
+        _ => rt.abort(),
+    }
+}
+
+fn is_text(rt: &impl Abort, got: &str, want: &str) {
+    assert_eq!(rt; got, want);
+}
+
+fn is_number(rt: &impl Abort, got: u64, want: u64) {
+    assert_eq!(rt; got, want);
+}
+
+fn is_full(rt: &impl Abort, fault: Fault) {
+    match fault {
+        Fault::TimeFull { key } => is_text(rt, key.as_str(), KEY),
+        _ => rt.abort(),
+    }
+}
+
+fn told_line(rt: &impl Abort, place: &str, line: u64, want: u64) {
+    is_text(rt, place, LOG);
+    is_number(rt, line, want);
+}
+
+fn is_bad(rt: &impl Abort, fault: Fault, want: u64) {
+    match fault {
+        Fault::BadLog { place, line } => told_line(rt, place.as_str(), line, want),
+        _ => rt.abort(),
+    }
+}
+
+fn is_too_large(rt: &impl Abort, fault: Fault, want: u64) {
+    match fault {
+        Fault::TooLarge { path, size } => told_line(rt, path.as_str(), size, want),
+        _ => rt.abort(),
+    }
 }
 
 #[test]
@@ -125,12 +163,12 @@ fn kept_again(rt: HostRuntime) {
     let alloc = rt.alloc();
     let log = format!(in alloc; "5s 1 {OWN}\n").expect(&rt, "memory");
     let mut files = files_with(&rt, alloc, "hello\n", log.as_str());
-    let before = files.calls();
+    let four_more = files.calls().checked_add(4).expect(&rt, "few calls");
     let kept = keep_hello(&rt, alloc, &mut files);
     assert!(&rt; kept.is_ok());
 
     // two sizes and two reads, and nothing is written
-    assert_eq!(&rt; files.calls() - before, 4);
+    assert_eq!(&rt; files.calls(), four_more);
     assert_eq!(&rt; log_text(&rt, alloc, &mut files).as_str(), log.as_str());
 }
 
@@ -139,10 +177,8 @@ fn no_later_second(rt: HostRuntime) {
     let alloc = rt.alloc();
     let log = format!(in alloc; "18446744073709551615s 0 {OWN}\n").expect(&rt, "memory");
     let mut files = files_with(&rt, alloc, "", log.as_str());
-    match keep_hello(&rt, alloc, &mut files) {
-        Err(Trouble::Refused(Fault::TimeFull { key })) => assert_eq!(&rt; key.as_str(), KEY),
-        _ => assert!(&rt; false),
-    }
+    let told = fault(&rt, keep_hello(&rt, alloc, &mut files));
+    is_full(&rt, told);
     assert!(&rt; !stands(&rt, alloc, &mut files));
 }
 
@@ -151,13 +187,8 @@ fn bad_logs(rt: HostRuntime) {
     let alloc = rt.alloc();
     let log = format!(in alloc; "{OTHER}\nx\n").expect(&rt, "memory");
     let mut files = files_with(&rt, alloc, "", log.as_str());
-    match keep_hello(&rt, alloc, &mut files) {
-        Err(Trouble::Refused(Fault::BadLog { place, line })) => {
-            assert_eq!(&rt; place.as_str(), LOG);
-            assert_eq!(&rt; line, 3);
-        }
-        _ => assert!(&rt; false),
-    }
+    let told = fault(&rt, keep_hello(&rt, alloc, &mut files));
+    is_bad(&rt, told, 3);
     assert!(&rt; !stands(&rt, alloc, &mut files));
 }
 
@@ -169,13 +200,8 @@ fn large_logs(rt: HostRuntime) {
         text.push_str("\n").expect(&rt, "memory");
     }
     let mut files = files_with(&rt, alloc, "", text.as_str());
-    match read_log(&rt, alloc, &mut files) {
-        Err(Trouble::Refused(Fault::TooLarge { path, size })) => {
-            assert_eq!(&rt; path.as_str(), LOG);
-            assert_eq!(&rt; size, LOG_LIMIT + 1);
-        }
-        _ => assert!(&rt; false),
-    }
+    let told = fault(&rt, read_log(&rt, alloc, &mut files));
+    is_too_large(&rt, told, LOG_LIMIT + 1);
 }
 
 #[test]
