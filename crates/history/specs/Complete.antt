@@ -31,9 +31,9 @@ IsSoundNoLog word (TooLarge path size) = Unit {0}
 IsSoundNoLog word (BadCommit id at) = IsByDigits word id
 IsSoundNoLog word fault = ⊥
 
--- A log of a sound dataset is refused for nothing that the program itself has left there: HEAD
--- leads to a commit, as each branch does, and no commit on a way from there is missing, damaged or
--- out of form.
+-- A log of a sound dataset is refused for nothing that the program itself has left there: that of
+-- HEAD for a limit alone, and no commit on the way is missing, damaged or out of form, but for one
+-- that the word itself gives by its digits.
 abbrev pub LogIsComplete : Type 0
 LogIsComplete =
     (root : Names) (word : List ℕ) (g : Ground) (fault : Fault) → Sound g → IsDataset root g
