@@ -6,14 +6,15 @@ use Rattle.faults.specs.declared.faults.Fault.{Fault}
 use Rattle.acts.specs.All.{Act, EndsRefused, Gives, Moments, Reaches}
 use Rattle.dataset.specs.All.{Sound}
 use Rattle.recursive_save.specs.All.{CreateKeepsSound, SaveKeepsSound, SaveIsComplete, SaveIsOne}
-use Rattle.recursive_save.specs.All.{IsSoundRefusal, SaveKeeps, StatusEnds, StatusIsComplete, StatusIsOne}
+use Rattle.recursive_save.specs.All.{SaveKeeps}
+use Rattle.tree_status.specs.All.{IsSoundNoStatus, StatusEnds, StatusIsComplete, StatusIsOne}
 use Rattle.repository.specs.All.{repo_of}
 use Rattle.history.specs.All.{IsSoundNoLog, LogIsComplete, LogIsOne}
 use Rattle.dl_words.specs.declared.words.Word.{Word}
 use Rattle.dl_words.specs.declared.words.Words.{Words}
 use Rattle.dl_words.specs.declared.words.Words.TheVariants as words
-use Rattle.datalad_cli.specs.Commands.{Command, Help, HasOneAct, IsActOf, IsSoundFault, Log, LogComes}
-use Rattle.datalad_cli.specs.Commands.{MayAnswer, StatusOf, Version, command_of}
+use Rattle.datalad_cli.specs.Commands.{Command, Help, HasOneAct, IsActOf, IsSoundFault, Log}
+use Rattle.datalad_cli.specs.Commands.{LogComes, MayAnswer, StatusOf, Version, command_of}
 use Rattle.datalad_cli.specs.Ends.{AtEachMoment, KeepsSound}
 use Rattle.datalad_cli.specs.Finding.{Location, location_by}
 use Rattle.datalad_cli.specs.Help.{help_text, version_text}
@@ -65,7 +66,7 @@ module _ (laws : CommandLaws) (cwd : Names) (moment : ℕ) (dated : moment < 2 ^
     sound = λ act is can sound settled.
         let none = read_still StatusEnds at (present old) act is in
         still_sound none.0 act old new none.1 sound settled;
-    refused = λ act fault is ends may sound. read_refused StatusEnds IsSoundRefusal laws.seen at (present old) fault (Reaches act old new) act is ends sound;
+    refused = λ act fault is ends may sound. read_refused StatusEnds IsSoundNoStatus laws.seen at (present old) fault (Reaches act old new) act is ends sound;
     one = λ one two is other. read_has_one StatusEnds laws.status at (present old) one two is other;
   }
 

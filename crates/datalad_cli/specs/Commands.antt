@@ -1,7 +1,7 @@
 -- The commands: what each one does, which faults it may answer, what it says, and what it leaves at
 -- every moment. A command is added by a case of each definition.
-use Rattle.std.specs.Prelude.{◌≡◌, ◌⊎◌, ℕ, Bool, true, false, List, [], ◌∷◌, Option, Some}
-use Rattle.std.specs.Prelude.{None, Result, Ok, Err, codes}
+use Rattle.std.specs.Prelude.{◌≡◌, ◌⊎◌, ℕ, Bool, true, false, List, [], ◌∷◌, Option, Some, None}
+use Rattle.std.specs.Prelude.{Result, Ok, Err, codes}
 use Rattle.places.specs.All.{Names, Ground}
 use Rattle.faults.specs.declared.lines.Line.{Line}
 use Rattle.faults.specs.declared.faults.Fault.{Fault}
@@ -15,8 +15,8 @@ use Rattle.repository.specs.All.{repo_of}
 use Rattle.dataset.specs.All.{NoneCollide}
 use Rattle.recursive_save.specs.All.{new_dataset, new_parts, MayCreate, created_line, create_step}
 use Rattle.recursive_save.specs.All.{CreateRemains, IsSave, MaySave, SaveRemains, AreSaveLines}
-use Rattle.recursive_save.specs.All.{dataset_line, IsSoundRefusal, IsStatusText, MayView}
-use Rattle.recursive_save.specs.All.{StatusEnds}
+use Rattle.recursive_save.specs.All.{dataset_line, IsSoundRefusal}
+use Rattle.tree_status.specs.All.{IsSoundNoStatus, IsStatusText, MayView, StatusEnds}
 use Rattle.recursive_save.specs.declared.wishes.SaveWish.{SaveWish}
 use Rattle.history.specs.All.{IsLogText, IsSoundNoLog, LogEnds, MayLog}
 use Rattle.dl_words.specs.All.{AskFor, EndsAt, is_built}
@@ -193,7 +193,7 @@ abbrev pub IsSoundFault : Command → Fault → Type 0
 IsSoundFault (Create dir at moment fresh) fault =
     MayAnswer true (Create dir at moment fresh) fault
 IsSoundFault (Save at message moment) fault = (fault ≡ no_root at) ⊎ IsSoundRefusal fault
-IsSoundFault (StatusOf at) fault = (fault ≡ no_root at) ⊎ IsSoundRefusal fault
+IsSoundFault (StatusOf at) fault = (fault ≡ no_root at) ⊎ IsSoundNoStatus fault
 IsSoundFault (Log at word) fault = (fault ≡ no_root at) ⊎ IsSoundNoLog word fault
 IsSoundFault Help fault = ⊥
 IsSoundFault Version fault = ⊥

@@ -2,13 +2,13 @@
 ghost use Rattle.std.specs.Prelude.{◌≡◌, ℕ, List, [], map, string_bytes};
 ghost use Rattle.acts.specs.All.{Acts};
 ghost use Rattle.recursive_save.specs.All.{CreateKeepsSound, SaveIsComplete, SaveIsOne, SaveKeeps, SaveKeepsSound};
-ghost use Rattle.recursive_save.specs.All.{StatusIsComplete, StatusIsOne};
+ghost use Rattle.tree_status.specs.All.{StatusIsComplete, StatusIsOne};
 ghost use Rattle.history.specs.All.{LogIsComplete, LogIsOne};
 ghost use Rattle.dl_words.specs.All.{AskFor, AskOnce, EndsOnce, HaveMeaning};
 ghost use Rattle.datalad_cli.specs.Answer.{call_of};
 ghost use Rattle.datalad_cli.specs.Answered.{Answered};
-ghost use Rattle.datalad_cli.specs.Commands.{CarriesOut, Create, Log, MayAnswer, MaySay, Save, StatusOf, command_of};
-ghost use Rattle.datalad_cli.specs.Commands.{creates};
+ghost use Rattle.datalad_cli.specs.Commands.{CarriesOut, Create, Log, MayAnswer, MaySay, Save};
+ghost use Rattle.datalad_cli.specs.Commands.{StatusOf, command_of, creates};
 ghost use Rattle.datalad_cli.specs.Ends.{telling_of, world_of};
 ghost use Rattle.datalad_cli.specs.Finding.{location_by};
 ghost use Rattle.datalad_cli.specs.Words.{leads, message_by, revision_by};
@@ -24,9 +24,10 @@ use file_store::{Bytes, Files, Place, Sink};
 use history::{log, log_is_complete, log_is_one};
 use recursive_save::{
     SaveWish, create, create_keeps_sound, save, save_is_complete, save_is_one, save_keeps_sound,
-    save_remains, status, status_is_complete, status_is_one,
+    save_remains,
 };
 use std::alloc::Global;
+use tree_status::{status, status_is_complete, status_is_one};
 
 // The text of a command that gives none.
 fn no_text(alloc: Global) -> Bytes

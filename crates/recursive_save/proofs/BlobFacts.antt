@@ -13,11 +13,11 @@ use Rattle.faults.specs.declared.faults.Trouble.TheVariants.{Refused}
 use Rattle.acts.proofs.Reading.{read_after, read_refuses}
 use Rattle.object_store.specs.declared.objects.NewObject.{NewObject}
 use Rattle.tree_status.specs.declared.found.WorkingFile.{WorkingFile}
-use Rattle.recursive_save.specs.Changes.{WorkFile}
+use Rattle.tree_status.specs.All.{WorkFile}
 use Rattle.recursive_save.specs.Saving.{blobs_limit, sum_fault}
 use Rattle.recursive_save.specs.Blobs.{work_of, IsThere, AreThere, AreBlobs, blob_of, BlobReads}
 use Rattle.recursive_save.specs.Blobs.{BlobsRead, MayReadBlob, MayReadBlobs}
-use Rattle.recursive_save.proofs.Readings.{read_fails}
+use Rattle.tree_status.proofs.Readings.{read_fails}
 
 -- how many bytes some files have
 abbrev pub bytes_of : List WorkFile → ℕ
@@ -104,7 +104,7 @@ module _ (tells : Bool) (root : Names) (files : List WorkingFile) (x : WorkingFi
       }
 
   may_more : (all rest : List WorkingFile) → all ≡ files ++ x ∷ rest → (fault : Fault) → MayReadBlob tells root (present mid) x fault → MayReadBlobs tells root (present old) all fault
-  may_more all rest split (TooLarge path size) h = tt
+  may_more all rest split (TooLarge path size) h = h.1
   may_more all rest split (Dirty path) h = λ t there.
       h t (subst (λ (g : Ground). IsThere root g x) (sym (present_is old mid (so_far.same t))) (each_front (IsThere root (present old)) files x rest (subst (AreThere root (present old)) split there)).1)
   may_more all rest split fault h = absurd h

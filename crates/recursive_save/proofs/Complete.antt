@@ -6,96 +6,65 @@ use Rattle.std.proofs.lemmas.Slice.Eq.{bytes_eq-Decides}
 use Rattle.places.specs.All.{Names, text_of, joined, is_text, Ground, file_at, stands}
 use Rattle.faults.specs.declared.lines.Line.{Line}
 use Rattle.faults.specs.declared.faults.Fault.{Fault}
-use Rattle.faults.specs.declared.faults.Fault.TheVariants.{Collision, Damaged, TooLarge}
+use Rattle.faults.specs.declared.faults.Fault.TheVariants.{Collision, Damaged, OddKind, TooLarge}
+use Rattle.faults.specs.declared.faults.Fault.TheVariants.{UnsupportedMode}
 use Rattle.file_store.specs.All.{or_next, first_shut, block_of, only}
 use Rattle.file_store.specs.declared.replacing.Replacement.{Replacement}
-use Rattle.git_objects.specs.All.{Object, is_object_text}
-use Rattle.git_objects.specs.All.{oid, text_of_object}
+use Rattle.git_objects.specs.All.{Object, is_object_text, oid, text_of_object}
 use Rattle.git_objects.specs.declared.ids.Id.{Id}
 use Rattle.config_text.specs.All.{PlainConfig, config_in}
-use Rattle.repository.specs.All.{item_limit}
-use Rattle.repository.specs.All.{Head as Led, head_of, held_at, id_text}
-use Rattle.repository.specs.All.{large, object_limit}
-use Rattle.repository.specs.All.{object_of, repo_limit, repo_of}
-use Rattle.repository.specs.All.{settings_place, tmp_place}
+use Rattle.repository.specs.All.{item_limit, Head as Led, head_of, held_at, id_text, large}
+use Rattle.repository.specs.All.{object_limit, object_of, repo_limit, repo_of, settings_place}
+use Rattle.repository.specs.All.{tmp_place}
 use Rattle.repository.proofs.Holds.{held_is, none_of_text}
-use Rattle.acts.specs.All.{Act, Ending, Gives, Refuses, Breaks, Step, bind, ending_of, fold}
-use Rattle.acts.specs.All.{gives, go_on, last_of, put_act, puts, says, still, unless}
-use Rattle.object_store.specs.All.{early_fault, fault_in, first_fault, found_fault}
-use Rattle.object_store.specs.All.{long_fault}
-use Rattle.object_store.specs.All.{missing, object_text, place_in, puts_missing}
-use Rattle.object_store.specs.All.{puts_objects, puts_some, staging}
+use Rattle.acts.specs.All.{Act, Ending, Gives, Refuses, Breaks, Step, bind, ending_of, fold, gives}
+use Rattle.acts.specs.All.{go_on, last_of, put_act, puts, says, still, unless}
+use Rattle.object_store.specs.All.{early_fault, fault_in, first_fault, found_fault, long_fault}
+use Rattle.object_store.specs.All.{missing, object_text, place_in, puts_missing, puts_objects}
+use Rattle.object_store.specs.All.{puts_some, staging}
 use Rattle.object_store.specs.declared.objects.NewObject.{NewObject}
-use Rattle.ref_store.specs.All.{given, head_at, head_fault}
-use Rattle.ref_store.specs.All.{head_given, long_repo, puts_one, set_fault}
-use Rattle.ref_store.specs.All.{sets_tip, tip_at, tip_fault}
+use Rattle.ref_store.specs.All.{given, head_at, head_fault, head_given, long_repo, puts_one}
+use Rattle.ref_store.specs.All.{set_fault, sets_tip, tip_at, tip_fault}
 use Rattle.snapshot.specs.declared.entries.Entry.{Entry}
 use Rattle.snapshot.specs.declared.entries.Leaf.{Leaf}
 use Rattle.snapshot.specs.declared.entries.Leaf.TheVariants.{Git, Link, Pin}
 use Rattle.dataset.specs.All.{IsLimit, IsLimitAtMost, IsSoundAt, IsWhole}
 use Rattle.dataset.proofs.Ids.{oid_is_id}
 use Rattle.dataset.proofs.Readable.{flat_read, head_read, object_held, tip_read}
-use Rattle.tree_status.specs.All.{Directory, ItemKind, Nested, Working, fault_along}
-use Rattle.tree_status.specs.All.{git_file_limit, item_fault, items, walk_fault, working}
-use Rattle.tree_status.specs.All.{kind_fault as item_kind_fault}
-use Rattle.recursive_save.specs.Changes.{WorkFile, added}
+use Rattle.tree_status.specs.All.{Directory, ItemKind, Nested, Working, fault_along, git_file_limit}
+use Rattle.tree_status.specs.All.{item_fault, items, walk_fault, working}
+use Rattle.tree_status.specs.All.{kind_fault as item_kind_fault, WorkFile, added, IsSoundNoStatus}
+use Rattle.tree_status.specs.All.{IsUnread, pin_fault, view_fault}
+use Rattle.tree_status.proofs.SoundLooks.{Only, cond_only, limit_only, of_only, or_only, unread_sound}
 use Rattle.recursive_save.specs.Saved.{IsSoundEnding, IsSoundRefusal, SaveIsComplete}
-use Rattle.recursive_save.specs.Saving.{IsSave, IsUnread, SavePlan, blobs_limit, clash_fault}
-use Rattle.recursive_save.specs.Saving.{clash_with, clean, line_fault, pin_fault, plan_fault, saved}
-use Rattle.recursive_save.specs.Saving.{saves, saves_nothing, says_all, settings_fault, settings_in}
-use Rattle.recursive_save.specs.Saving.{settings_limit, sum_fault, unplanned, unread, view_fault}
-use Rattle.recursive_save.specs.Saving.{writes}
+use Rattle.recursive_save.specs.Saving.{IsSave, SavePlan, blobs_limit, clash_fault, clash_with}
+use Rattle.recursive_save.specs.Saving.{clean, line_fault, plan_fault, saved, saves, saves_nothing}
+use Rattle.recursive_save.specs.Saving.{says_all, settings_fault, settings_in, settings_limit}
+use Rattle.recursive_save.specs.Saving.{sum_fault, unplanned, unread, writes}
 use Rattle.recursive_save.specs.declared.wishes.SaveWish.{SaveWish}
 use Rattle.recursive_save.proofs.SaveLeft.{head_kept}
 
--- a fault, if any, is one for which a sound dataset may be refused
 abbrev Soundly : Option Fault → Type 0
-Soundly None = Unit {0}
-Soundly (Some fault) = IsSoundRefusal fault
+Soundly = Only IsSoundRefusal
 
 of_soundly : (o : Option Fault) (fault : Fault) → Soundly o → o ≡ Some fault → IsSoundRefusal fault
-of_soundly o fault h e = subst Soundly e h
+of_soundly = of_only IsSoundRefusal
 
 or_sound : (a b : Option Fault) → Soundly a → Soundly b → Soundly (or_next a b)
-or_sound None b h k = k
-or_sound (Some f) b h k = h
+or_sound = or_only IsSoundRefusal
 
 cond_sound : (b : Bool) (x y : Option Fault) → Soundly x → Soundly y → Soundly (cond b x y)
-cond_sound true x y h k = h
-cond_sound false x y h k = k
-
--- a limit that is passed is one
-of_limit : (fault : Fault) → IsLimit fault → IsSoundRefusal fault
-of_limit (TooLarge path size) h = tt
-of_limit fault h = absurd h
+cond_sound = cond_only IsSoundRefusal
 
 limit_sound : (o : Option Fault) → IsLimitAtMost o → Soundly o
-limit_sound None h = tt
-limit_sound (Some fault) h = of_limit fault h
+limit_sound = limit_only IsSoundRefusal (λ path size. tt)
 
--- WORKING FILES, and pins
-pin_sound : (list : List Entry) → Soundly (pin_fault list)
-pin_sound [] = tt
-pin_sound (entry ∷ list) = by entry.path entry.leaf (pin_sound list)
-  where
-    by : (path : List ℕ) (leaf : Leaf) → Soundly (pin_fault list) → Soundly (pin_fault (record { path = path; leaf = leaf } ∷ list))
-    by path (Git id exec) rest = rest
-    by path (Link id) rest = rest
-    by path (Pin id) rest = tt
-
-item_sound : (root : Names) (path : List ℕ) (kind : ItemKind) → Soundly (item_fault root path kind)
-item_sound root path Directory = cond_sound (is_text (joined root path)) None _ tt tt
-item_sound root path Nested = cond_sound (is_text (joined root path)) (item_kind_fault path Nested) _ tt tt
-item_sound root path (Working bytes) = cond_sound (is_text (joined root path)) (item_kind_fault path (Working bytes)) _ (cond_sound (nat_le (length bytes) git_file_limit) None _ tt tt) tt
-
-along_sound : (root : Names) (count : ℕ) (list : List (List ℕ × ItemKind)) → Soundly (fault_along root count list)
-along_sound root count [] = tt
-along_sound root count (item ∷ rest) =
-    cond_sound (nat_le item_limit count) _ (or_next (item_fault root item.0 item.1) (fault_along root (count + 1) rest)) tt
-    (or_sound (item_fault root item.0 item.1) (fault_along root (count + 1) rest) (item_sound root item.0 item.1) (along_sound root (count + 1) rest))
-
-view_sound : (root : Names) (g : Ground) (old : List Entry) → Soundly (view_fault root g old)
-view_sound root g old = or_sound (pin_fault old) (walk_fault root g) (pin_sound old) (along_sound root 0 (entries (items root g)))
+-- what a look is refused for, a save may be
+look_sound : (fault : Fault) → IsSoundNoStatus fault → IsSoundRefusal fault
+look_sound (TooLarge path size) h = tt
+look_sound (UnsupportedMode path) h = tt
+look_sound (OddKind path) h = tt
+look_sound fault h = absurd h
 
 -- THE PLAN
 sum_sound : (before : ℕ) (files : List WorkFile) → Soundly (sum_fault before files)
@@ -163,19 +132,6 @@ nothing_sound g = tt
 module _ (root : Names) (g : Ground) (at : IsSoundAt root g) where
   abbrev repo : Names
   repo = repo_of root
-
-  led : (o : Option Led) (parent : List ℕ) → o ≡ Some at.heads.head → option_map (λ (h : Led). h.id) o ≡ Some parent → at.heads.head.id ≡ parent
-  led o parent is e =
-      let both : Some at.heads.head.id ≡ Some parent = sym (ap (option_map (λ (h : Led). h.id)) is) ∙ e in
-      cc both
-
-  whole_at : (parent : List ℕ) → option_map (λ (h : Led). h.id) (head_of g repo) ≡ Some parent → IsWhole repo parent g
-  whole_at parent e = subst (λ (i : List ℕ). IsWhole repo i g) (led (head_of g repo) parent at.heads.leads e) at.heads.whole
-
-  pub unread_sound : (fault : Fault) → IsUnread root g fault → IsSoundRefusal fault
-  unread_sound fault (inl tip) = of_soundly (tip_fault repo g) fault (limit_sound (tip_fault repo g) (tip_read repo g at.heads.head at.heads.leads)) tip
-  unread_sound fault (inr (parent, tip, inl fails)) = of_limit fault (flat_read repo g parent fault (whole_at parent tip.1) fails)
-  unread_sound fault (inr (parent, tip, inr (old, flat, why))) = of_soundly (view_fault root g old) fault (view_sound root g old) why
 
   plan_sound : (old : List Entry) → Soundly (plan_fault root g old)
   plan_sound old =
@@ -255,7 +211,7 @@ module _ (root : Names) (g : Ground) (at : IsSoundAt root g) where
 
   -- THE SAVE
   save_ends : (wish : SaveWish) (act : Act (Option Id)) → IsSave root wish g act → EndsSoundly act
-  save_ends wish _ (unread fault why) = unread_sound fault why
+  save_ends wish _ (unread fault why) = look_sound fault (unread_sound root g at fault why)
   save_ends wish _ (clean parent old read same) = nothing_sound g
   save_ends wish _ (unplanned parent old fault read changed why) = of_soundly (plan_fault root g old) fault (plan_sound old) why
   save_ends wish _ (saved parent old plan read changed none planned) = saves_sound plan

@@ -1,9 +1,6 @@
 -- Lemmas that several answers share.
 pub mod Apart
 pub mod BlobFacts
-pub mod ChangeLaws
-pub mod ChangedFiles
-pub mod ChangedStates
 pub mod Clear
 pub mod Colliding
 pub mod Complete
@@ -20,16 +17,12 @@ pub mod NewSettings
 pub mod OldLeaves
 pub mod OneAct
 pub mod Ours
-pub mod PathOrder
 pub mod Persons
 pub mod PlanFacts
-pub mod Readings
 pub mod SaidLines
 pub mod SaveKeeps
 pub mod SaveLeft
 pub mod SaveRounds
 pub mod Saves
-pub mod Standing
-pub mod Statuses
-pub mod Views
+pub mod There
 pub mod Written

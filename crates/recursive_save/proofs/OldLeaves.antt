@@ -21,8 +21,8 @@ use Rattle.snapshot.specs.declared.entries.Leaf.{Leaf}
 use Rattle.snapshot.specs.declared.entries.Leaf.TheVariants.{Git, Link, Pin}
 use Rattle.dataset.specs.All.{Has, IsBlobAt, IsLeafHeld, EachLeaf, IsLeafThere, blob_objects}
 use Rattle.dataset.proofs.Commits.{has_either}
-use Rattle.recursive_save.specs.Changes.{WorkFile, added, is_blob, leaf_at, new_blobs, new_entries}
-use Rattle.recursive_save.specs.Changes.{new_entry}
+use Rattle.tree_status.specs.All.{WorkFile, added, is_blob, leaf_at, new_blobs, new_entries}
+use Rattle.tree_status.specs.All.{new_entry}
 
 module _ (repo : Names) (g : Ground) where
   -- ONE DIRECTORY is held under an id, and so are its leaves

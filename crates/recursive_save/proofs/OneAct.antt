@@ -14,68 +14,19 @@ use Rattle.acts.specs.All.{Act, still, Refuses}
 use Rattle.ref_store.specs.All.{IsTipAt}
 use Rattle.snapshot.specs.All.{IsFlat, IsFlattenFault, root_id, tree_objects}
 use Rattle.snapshot.specs.declared.entries.Entry.{Entry}
-use Rattle.snapshot.proofs.Inverse.{one_end}
 use Rattle.snapshot.proofs.Once.{paths_once}
-use Rattle.tree_status.specs.All.{working}
-use Rattle.recursive_save.specs.Changes.{change_lines, is_changed, new_blobs, new_entries}
+use Rattle.tree_status.specs.All.{working, is_changed, new_blobs, new_entries, IsRead, IsUnread}
+use Rattle.tree_status.specs.All.{view_fault}
+use Rattle.recursive_save.specs.Lines.{change_lines}
+use Rattle.tree_status.proofs.OneLook.{SameRead, not_none, read_once, some_once, unread_once, unread_or_read}
 use Rattle.recursive_save.specs.Saved.{SaveIsOne}
-use Rattle.recursive_save.specs.Saving.{IsRead, IsSave, IsSavePlan, IsUnread, SavePlan, clean}
-use Rattle.recursive_save.specs.Saving.{dataset_line, plan_fault, save_commit, saved, saves}
-use Rattle.recursive_save.specs.Saving.{unplanned, unread, view_fault}
+use Rattle.recursive_save.specs.Saving.{IsSave, IsSavePlan, SavePlan, clean, dataset_line}
+use Rattle.recursive_save.specs.Saving.{plan_fault, save_commit, saved, saves, unplanned, unread}
 use Rattle.recursive_save.specs.declared.wishes.SaveWish.{SaveWish}
 
-some_once : {A : Type 0} (o : Option A) (a b : A) → o ≡ Some a → o ≡ Some b → a ≡ b
-some_once o a b one two = cc (sym one ∙ two)
-
-not_none : {A : Type 0} (o : Option A) (a : A) → o ≡ Some a → o ≡ None → ⊥
-not_none o a some none = cc (sym some ∙ none)
-
 module _ (root : Names) (g : Ground) where
-  abbrev repo : Names
-  repo = repo_of root
-
-  parent_once : (one two : List ℕ) → IsTipAt repo g (record { 0 = one }) → IsTipAt repo g (record { 0 = two }) → one ≡ two
-  parent_once one two a b = some_once _ one two a.1 b.1
-
-  -- WHAT IS READ
-  old_once : (one two : List ℕ) (a b : List Entry) → one ≡ two → IsFlat repo one g a → IsFlat repo two g b → a ≡ b
-  old_once one two a b same flat other = one_end.list repo g two a b (subst (λ (c : List ℕ). IsFlat repo c g a) same flat) other
-
-  pub record SameRead (one two : List ℕ) (a b : List Entry) : Type 0 where
-    pub parent : one ≡ two
-    pub old : a ≡ b
-
-  pub read_once : (one two : List ℕ) (a b : List Entry) → IsRead root g one a → IsRead root g two b → SameRead one two a b
-  read_once one two a b read other =
-      let same = parent_once one two read.tip other.tip in
-      record { parent = same; old = old_once one two a b same read.flat other.flat }
-
-  -- OR NOT
-  viewed : (parent : List ℕ) (old : List Entry) → IsRead root g parent old → view_fault root g old ≡ None
-  viewed parent old read i = or_next (read.plain i) (read.walk i)
-
-  pub unread_or_read : (fault : Fault) (parent : List ℕ) (old : List Entry) → IsUnread root g fault → IsRead root g parent old → ⊥
-  unread_or_read fault parent old (inl tip) read = not_none _ fault tip read.tip.0
-  unread_or_read fault parent old (inr (other, tip, inl fails)) read =
-      one_end.not_both repo g parent old fault read.flat (subst (λ (c : List ℕ). IsFlattenFault repo c g fault) (parent_once other parent tip read.tip) fails)
-  unread_or_read fault parent old (inr (other, tip, inr (list, flat, why))) read =
-      not_none _ fault (ap (view_fault root g) (old_once parent other old list (parent_once parent other read.tip tip) read.flat flat) ∙ why) (viewed parent old read)
-
-  pub unread_once : (one two : Fault) → IsUnread root g one → IsUnread root g two → one ≡ two
-  unread_once one two (inl a) (inl b) = some_once _ one two a b
-  unread_once one two (inl a) (inr (parent, tip, rest)) = absurd (not_none _ one a tip.0)
-  unread_once one two (inr (parent, tip, rest)) (inl b) = absurd (not_none _ two b tip.0)
-  unread_once one two (inr (p, tip, inl a)) (inr (q, other, inl b)) =
-      one_end.fault repo g q one two (subst (λ (c : List ℕ). IsFlattenFault repo c g one) (parent_once p q tip other) a) b
-  unread_once one two (inr (p, tip, inl a)) (inr (q, other, inr (list, flat, why))) =
-      absurd (one_end.not_both repo g q list one flat (subst (λ (c : List ℕ). IsFlattenFault repo c g one) (parent_once p q tip other) a))
-  unread_once one two (inr (p, tip, inr (list, flat, why))) (inr (q, other, inl b)) =
-      absurd (one_end.not_both repo g p list two flat (subst (λ (c : List ℕ). IsFlattenFault repo c g two) (parent_once q p other tip) b))
-  unread_once one two (inr (p, tip, inr (list, flat, why))) (inr (q, other, inr (more, flatter, because))) =
-      some_once _ one two (ap (view_fault root g) (old_once q p more list (parent_once q p other tip) flatter flat) ∙ why) because
-
   -- WHAT IS PLANNED
-  module _ (wish : SaveWish) {one two : List ℕ} {a b : List Entry} {plan other : SavePlan} (same : SameRead one two a b) (p : IsSavePlan root wish g one a plan) (q : IsSavePlan root wish g two b other) where
+  module _ (wish : SaveWish) {one two : List ℕ} {a b : List Entry} {plan other : SavePlan} (same : SameRead root g one two a b) (p : IsSavePlan root wish g one a plan) (q : IsSavePlan root wish g two b other) where
     settings_once : p.settings ≡ q.settings
     settings_once = some_once _ p.settings q.settings p.stands q.stands
 
@@ -115,24 +66,24 @@ module _ (root : Names) (g : Ground) where
 
   -- THE ACT
   act_once : (wish : SaveWish) (one two : Act (Option Id)) → IsSave root wish g one → IsSave root wish g two → one ≡ two
-  act_once wish _ _ (unread fault why) (unread other because) = ap (λ (f : Fault). still (Refuses f)) (unread_once fault other why because)
-  act_once wish _ _ (unread fault why) (clean p a read same) = absurd (unread_or_read fault p a why read)
-  act_once wish _ _ (unread fault why) (unplanned p a other read changed because) = absurd (unread_or_read fault p a why read)
-  act_once wish _ _ (unread fault why) (saved p a plan read changed none planned) = absurd (unread_or_read fault p a why read)
-  act_once wish _ _ (clean p a read same) (unread fault why) = absurd (unread_or_read fault p a why read)
+  act_once wish _ _ (unread fault why) (unread other because) = ap (λ (f : Fault). still (Refuses f)) (unread_once root g fault other why because)
+  act_once wish _ _ (unread fault why) (clean p a read same) = absurd (unread_or_read root g fault p a why read)
+  act_once wish _ _ (unread fault why) (unplanned p a other read changed because) = absurd (unread_or_read root g fault p a why read)
+  act_once wish _ _ (unread fault why) (saved p a plan read changed none planned) = absurd (unread_or_read root g fault p a why read)
+  act_once wish _ _ (clean p a read same) (unread fault why) = absurd (unread_or_read root g fault p a why read)
   act_once wish _ _ (clean p a read same) (clean q b other also) = refl
-  act_once wish _ _ (clean p a read same) (unplanned q b fault other changed why) = absurd (changed_once a b (read_once p q a b read other).old same changed)
-  act_once wish _ _ (clean p a read same) (saved q b plan other changed none planned) = absurd (changed_once a b (read_once p q a b read other).old same changed)
-  act_once wish _ _ (unplanned p a fault read changed why) (unread other because) = absurd (unread_or_read other p a because read)
-  act_once wish _ _ (unplanned p a fault read changed why) (clean q b other same) = absurd (changed_once b a (read_once q p b a other read).old same changed)
+  act_once wish _ _ (clean p a read same) (unplanned q b fault other changed why) = absurd (changed_once a b (read_once root g p q a b read other).old same changed)
+  act_once wish _ _ (clean p a read same) (saved q b plan other changed none planned) = absurd (changed_once a b (read_once root g p q a b read other).old same changed)
+  act_once wish _ _ (unplanned p a fault read changed why) (unread other because) = absurd (unread_or_read root g other p a because read)
+  act_once wish _ _ (unplanned p a fault read changed why) (clean q b other same) = absurd (changed_once b a (read_once root g q p b a other read).old same changed)
   act_once wish _ _ (unplanned p a fault read changed why) (unplanned q b more other differs because) =
-      ap (λ (f : Fault). still (Refuses f)) (some_once _ fault more (ap (plan_fault root g) (read_once q p b a other read).old ∙ why) because)
-  act_once wish _ _ (unplanned p a fault read changed why) (saved q b plan other differs none planned) = absurd (planned_once a b fault (read_once p q a b read other).old why none)
-  act_once wish _ _ (saved p a plan read changed none planned) (unread fault why) = absurd (unread_or_read fault p a why read)
-  act_once wish _ _ (saved p a plan read changed none planned) (clean q b other same) = absurd (changed_once b a (read_once q p b a other read).old same changed)
-  act_once wish _ _ (saved p a plan read changed none planned) (unplanned q b fault other differs why) = absurd (planned_once b a fault (read_once q p b a other read).old why none)
+      ap (λ (f : Fault). still (Refuses f)) (some_once _ fault more (ap (plan_fault root g) (read_once root g q p b a other read).old ∙ why) because)
+  act_once wish _ _ (unplanned p a fault read changed why) (saved q b plan other differs none planned) = absurd (planned_once a b fault (read_once root g p q a b read other).old why none)
+  act_once wish _ _ (saved p a plan read changed none planned) (unread fault why) = absurd (unread_or_read root g fault p a why read)
+  act_once wish _ _ (saved p a plan read changed none planned) (clean q b other same) = absurd (changed_once b a (read_once root g q p b a other read).old same changed)
+  act_once wish _ _ (saved p a plan read changed none planned) (unplanned q b fault other differs why) = absurd (planned_once b a fault (read_once root g q p b a other read).old why none)
   act_once wish _ _ (saved p a plan read changed none planned) (saved q b more other differs nothing also) =
-      ap (λ (z : SavePlan). saves root z g) (plan_once wish (read_once p q a b read other) planned also)
+      ap (λ (z : SavePlan). saves root z g) (plan_once wish (read_once root g p q a b read other) planned also)
 
 pub one_act : SaveIsOne
 one_act root wish g one two a b = act_once root g wish one two a b

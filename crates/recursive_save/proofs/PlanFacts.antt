@@ -20,22 +20,21 @@ use Rattle.object_store.specs.All.{get_fault}
 use Rattle.object_store.specs.declared.objects.NewObject.{NewObject}
 use Rattle.snapshot.specs.All.{Has, IsLeastClash}
 use Rattle.snapshot.specs.declared.entries.Entry.{Entry}
-use Rattle.tree_status.specs.All.{as_file, working}
+use Rattle.tree_status.specs.All.{as_file, working, as_files, WorkFile, added, new_entries, is_blob}
+use Rattle.tree_status.specs.All.{leaf_at, IsView}
 use Rattle.tree_status.specs.declared.found.WorkingFile.{WorkingFile}
 use Rattle.recursive_save.specs.Blobs.{AreBlobs, AreThere, BlobsRead, MayReadBlobs, blob_of}
 use Rattle.recursive_save.specs.Blobs.{work_of}
-use Rattle.recursive_save.specs.Changed.{as_files}
-use Rattle.recursive_save.specs.Changes.{WorkFile, added, new_entries, is_blob, leaf_at}
 use Rattle.recursive_save.specs.Configured.{ConfigReads, MayConfigure}
 use Rattle.recursive_save.specs.Planned.{HasWork, IsPlannedOf, IsPlanRefusal, IsPlanWith, MayPlan}
 use Rattle.recursive_save.specs.Planned.{PlanFails, plan_of}
 use Rattle.recursive_save.specs.Saving.{save_commit, sum_fault}
-use Rattle.recursive_save.specs.Views.{IsView}
 use Rattle.recursive_save.specs.declared.planning.Planned.{Planned}
-use Rattle.recursive_save.specs.declared.viewing.View.{View}
+use Rattle.tree_status.specs.declared.viewing.View.{View}
 use Rattle.recursive_save.specs.declared.wishes.SaveWish.{SaveWish}
-use Rattle.recursive_save.proofs.Readings.{read_fails}
-use Rattle.recursive_save.proofs.Standing.{IsStanding, all_standing, are_there, none_above, works_are}
+use Rattle.tree_status.proofs.Readings.{read_fails}
+use Rattle.tree_status.proofs.Standing.{IsStanding, all_standing, none_above}
+use Rattle.recursive_save.proofs.There.{are_there, works_are}
 
 present_is : (old new : Drive) → new.history ≡ old.history → present new ≡ present old
 present_is old new same = ap (λ (h : History). h.latest.now) same
@@ -81,11 +80,11 @@ module _ (root : Names) (g : Ground) (old : List Entry) where
 module _ (tells : Bool) (root : Names) where
   config_may : (fault : Fault) → MayConfigure root fault → MayPlan tells root fault
   config_may (BadLine place line) h = h
-  config_may (TooLarge path size) h = tt
+  config_may (TooLarge path size) h = inl h
   config_may fault h = absurd h
 
   blobs_may : (g : Ground) (files : List WorkingFile) → (IsTrue tells → AreThere root g files) → (fault : Fault) → MayReadBlobs tells root g files fault → MayPlan tells root fault
-  blobs_may g files there (TooLarge path size) h = tt
+  blobs_may g files there (TooLarge path size) h = inr h
   blobs_may g files there (Dirty path) h = λ t. h t (there t)
   blobs_may g files there fault h = absurd h
 

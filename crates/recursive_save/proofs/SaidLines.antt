@@ -2,10 +2,10 @@
 use Rattle.std.proofs.Common.{◌≡◌, List, [], ◌∷◌, ◌++◌, map, refl, ap, ◌∙◌, sym, append_assoc}
 use Rattle.std.specs.Prelude.{codes}
 use Rattle.faults.specs.declared.lines.Line.{Line}
-use Rattle.recursive_save.specs.Changes.{change_line}
-use Rattle.recursive_save.specs.Saved.{AreChangeLines, AreSaveLines}
+use Rattle.recursive_save.specs.Lines.{change_line, AreChangeLines}
+use Rattle.recursive_save.specs.Saved.{AreSaveLines}
 use Rattle.recursive_save.specs.Saving.{dataset_line}
-use Rattle.recursive_save.specs.declared.states.Change.{Change}
+use Rattle.tree_status.specs.declared.states.Change.{Change}
 
 pub all_said : (changes : List Change) → AreChangeLines (map change_line changes)
 all_said [] = tt

@@ -28,11 +28,10 @@ use Rattle.dataset.proofs.Moments.{moments_intact, end_sound, end_settled}
 use Rattle.dataset.proofs.Refs.{is_done}
 use Rattle.dataset.proofs.Saving.{flat_save, neither, no_fault_free}
 use Rattle.dataset.proofs.Steps.{bind_keeps, none_watched, still_steps}
-use Rattle.tree_status.specs.All.{working}
-use Rattle.recursive_save.specs.Changes.{added, leaf_at, new_entries}
-use Rattle.recursive_save.specs.Saving.{IsRead, IsSave, IsSavePlan, SavePlan, save_commit, saves}
-use Rattle.recursive_save.specs.Saving.{saves_nothing, says_all, writes}
-use Rattle.recursive_save.specs.Saving.{clash_fault, unread, clean, unplanned, saved}
+use Rattle.tree_status.specs.All.{working, added, leaf_at, new_entries, IsRead}
+use Rattle.recursive_save.specs.Saving.{IsSave, IsSavePlan, SavePlan, save_commit, saves}
+use Rattle.recursive_save.specs.Saving.{saves_nothing, says_all, writes, clash_fault, unread, clean}
+use Rattle.recursive_save.specs.Saving.{unplanned, saved}
 use Rattle.recursive_save.specs.Soundness.{SaveKeepsSound}
 use Rattle.recursive_save.specs.declared.wishes.SaveWish.{SaveWish}
 use Rattle.recursive_save.proofs.Apart.{none_collide}

@@ -26,8 +26,8 @@ use Rattle.repository.proofs.HeadTexts.{id_in-only}
 use Rattle.repository.proofs.Holds.{held_is}
 use Rattle.repository.proofs.Temporary.{outside_apart}
 use Rattle.repository.proofs.Unfinished.{repo_tmp, repo_below}
-use Rattle.acts.specs.All.{Act, IsFirm, IsFixed, Nothing, NewWithAll, last_of}
-use Rattle.acts.specs.All.{Refuses, rounds_in, whole_round, still as refused}
+use Rattle.acts.specs.All.{Act, IsFirm, IsFixed, Nothing, NewWithAll, last_of, Refuses, rounds_in}
+use Rattle.acts.specs.All.{whole_round, still as refused}
 use Rattle.object_store.specs.All.{has_place, missing, one_object_more, place_in, puts_objects, staging}
 use Rattle.object_store.specs.declared.objects.NewObject.{NewObject}
 use Rattle.ref_store.specs.All.{branch_by, given, head_at, head_given}
@@ -37,8 +37,8 @@ use Rattle.ref_store.proofs.Sets.{tip_outside}
 use Rattle.dataset.proofs.Ids.{oid_is_id}
 use Rattle.snapshot.specs.declared.entries.Entry.{Entry}
 use Rattle.recursive_save.specs.Saved.{SaveKeeps, SaveRemains}
-use Rattle.recursive_save.specs.Saving.{IsRead, IsSave, SavePlan, clean, saved, unplanned}
-use Rattle.recursive_save.specs.Saving.{unread}
+use Rattle.tree_status.specs.All.{IsRead}
+use Rattle.recursive_save.specs.Saving.{IsSave, SavePlan, clean, saved, unplanned, unread}
 use Rattle.recursive_save.specs.declared.wishes.SaveWish.{SaveWish}
 use Rattle.recursive_save.proofs.SaveRounds.{NoRound, OfTwo, nothing_none, put_ground, put_most, put_round, saved_rounds, tip_round}
 

@@ -8,10 +8,9 @@ use Rattle.faults.specs.declared.lines.Line.{Line}
 use Rattle.faults.specs.declared.faults.Fault.{Fault}
 use Rattle.faults.specs.declared.faults.Trouble.{Trouble}
 use Rattle.faults.specs.declared.faults.Fault.TheVariants.{TooLarge, Blocked, Damaged, Missing}
-use Rattle.faults.specs.declared.faults.Fault.TheVariants.{BadTree}
-use Rattle.faults.specs.declared.faults.Fault.TheVariants.{BadCommit, UnsupportedMode, OddKind}
-use Rattle.faults.specs.declared.faults.Fault.TheVariants.{Dirty}
-use Rattle.faults.specs.declared.faults.Fault.TheVariants.{PathClash, BadLine, Collision}
+use Rattle.faults.specs.declared.faults.Fault.TheVariants.{BadTree, BadCommit, UnsupportedMode}
+use Rattle.faults.specs.declared.faults.Fault.TheVariants.{OddKind, Dirty, PathClash, BadLine}
+use Rattle.faults.specs.declared.faults.Fault.TheVariants.{Collision}
 use Rattle.faults.specs.declared.faults.Trouble.TheVariants.{Refused, Device, NoMemory}
 use Rattle.git_objects.specs.All.{oid}
 use Rattle.git_objects.specs.declared.ids.Id.{Id}
@@ -26,50 +25,32 @@ use Rattle.object_store.specs.declared.objects.NewObject.{NewObject}
 use Rattle.ref_store.specs.All.{long_place, damaged_unless, head_at, sets_tip, lead_fault}
 use Rattle.ref_store.specs.All.{MaySetTip}
 use Rattle.ref_store.proofs.Fitting.{long_is}
-use Rattle.recursive_save.specs.Saving.{MaySave, IsSave, IsUnread, unread, clean, unplanned, saved}
+use Rattle.recursive_save.specs.Saving.{MaySave, IsSave, unread, clean, unplanned, saved}
 use Rattle.recursive_save.specs.Saving.{clash_with, clash_fault, dataset_line, saves, saves_nothing}
 use Rattle.recursive_save.specs.Saving.{writes}
+use Rattle.tree_status.specs.All.{IsUnread, IsView, MayView, IsRepo, is_changed, working}
 use Rattle.recursive_save.proofs.Handed.{as_put}
-use Rattle.recursive_save.specs.Views.{IsView, MayView}
-use Rattle.recursive_save.specs.Writing.{IsRepo}
 use Rattle.recursive_save.specs.Planned.{IsPlannedOf, IsPlanRefusal, MayPlan, plan_of}
 use Rattle.recursive_save.specs.declared.planning.Planned.{Planned}
-use Rattle.recursive_save.specs.declared.viewing.View.{View}
+use Rattle.tree_status.specs.declared.viewing.View.{View}
 use Rattle.recursive_save.specs.declared.wishes.SaveWish.{SaveWish}
-use Rattle.recursive_save.specs.Changes.{is_changed}
-use Rattle.tree_status.specs.All.{working}
-
--- HEAD has no place in the repository
-pub no_head : (root : Names) (text : List ℕ) (fault : Fault) → text ≡ joined root (codes ".dlrepo/HEAD") → 4096 < length text → fault ≡ TooLarge text (length text)
-    → long_place (repo_head (repo_of root)) ≡ Some fault
-no_head root text fault is long same =
-    ap long_place (append_assoc root (codes ".dlrepo" ∷ []) (codes "HEAD" ∷ []))
-    ∙ long_is (root ++ codes ".dlrepo" ∷ codes "HEAD" ∷ []) text fault (is ∙ below_text root (codes ".dlrepo/HEAD")) long same
 
 -- THE FAULTS
-long_may : (tells : Bool) (root place : Names) (fault : Fault) → long_place place ≡ Some fault → MaySave tells root fault
-long_may tells root place fault is = by (nat_lt longest (length (text_of place))) is
-  where
-    by : (b : Bool) → cond b (large place) None ≡ Some fault → MaySave tells root fault
-    by true e =
-        let same : TooLarge (text_of place) (length (text_of place)) ≡ fault = cc e in
-        subst (MaySave tells root) same tt
-    by false e = absurd (cc e)
-
 view_may : (tells : Bool) (root : Names) (fault : Fault) → MayView tells root fault → MaySave tells root fault
 view_may tells root (Damaged place) may = may
 view_may tells root (Missing id) may = tt
 view_may tells root (BadTree id at) may = tt
 view_may tells root (BadCommit id at) may = tt
-view_may tells root (TooLarge path size) may = tt
+view_may tells root (TooLarge path size) may = inl may
 view_may tells root (UnsupportedMode path) may = tt
-view_may tells root (OddKind path) may = tt
+view_may tells root (OddKind path) may = may
 view_may tells root (Dirty path) may = may
 view_may tells root fault may = absurd may
 
 plan_may : (tells : Bool) (root : Names) (fault : Fault) → MayPlan tells root fault → MaySave tells root fault
 plan_may tells root (BadLine place line) may = may
-plan_may tells root (TooLarge path size) may = tt
+plan_may tells root (TooLarge path size) (inl text) = inr (inl text)
+plan_may tells root (TooLarge path size) (inr over) = inr (inr (inl over))
 plan_may tells root (Dirty path) may = may
 plan_may tells root (PathClash path) may = may
 plan_may tells root fault may = absurd may
@@ -103,7 +84,7 @@ among P repo fault each (object ∷ objects) (inl here) = each object here
 among P repo fault each (object ∷ objects) (inr there) = among P repo fault each objects there
 
 put_may : (tells : Bool) (root : Names) (objects : List NewObject) (fault : Fault) → MayPut tells (repo_of root) objects fault → MaySave tells root fault
-put_may tells root objects (TooLarge path size) may = tt
+put_may tells root objects (TooLarge path size) may = inr (inr (inr may))
 put_may tells root objects (Blocked at) may = may
 put_may tells root objects (Collision id) may = tt
 put_may tells root objects (Damaged place) may =
@@ -112,7 +93,8 @@ put_may tells root objects fault may = among (MaySave tells root fault) (repo_of
 
 tip_may : (tells : Bool) (root : Names) (fault : Fault) → MaySetTip tells (repo_of root) fault → MaySave tells root fault
 tip_may tells root (Damaged place) may = inl (None, tt, may)
-tip_may tells root (TooLarge path size) may = tt
+tip_may tells root (TooLarge path size) (inl over) = inl (inl (repo_head (repo_of root), (None, tt, refl), over))
+tip_may tells root (TooLarge path size) (inr over) = inr (inr (inr (inr over)))
 tip_may tells root (Blocked at) may = may
 tip_may tells root fault may = absurd may
 
@@ -146,7 +128,7 @@ module _ (tells : Bool) (root : Names) (wish : SaveWish) where
   unplaced {l} {d} (Refused fault) is =
       let repo = repo_of root in
       let g = present d in
-      as_refused (long_may tells root (repo_head repo) fault is) (omega arith)
+      as_refused (view_may tells root fault (long_seen tells root fault is)) (omega arith)
       (λ t. (refl, unread fault (inl (ap (λ (o : Option Fault). or_next (or_next o (damaged_unless (repo_head repo) (head_at repo g))) (lead_fault repo g (head_at repo g))) is))))
   unplaced Device is = absurd is
   unplaced NoMemory is = as_starved (omega arith) (λ t. refl)

@@ -1,6 +1,6 @@
 -- How the new blobs of a save are read.
-use Rattle.std.specs.Prelude.{◌≡◌, ◌≤◌, ◌<◌, ◌+◌, ℕ, Bool, true, IsTrue, List, ◌++◌, length}
-use Rattle.std.specs.Prelude.{map, Some, None, Vec, Result}
+use Rattle.std.specs.Prelude.{◌≡◌, ◌≤◌, ◌<◌, ◌+◌, ℕ, Bool, true, IsTrue, List, ◌++◌, length, map}
+use Rattle.std.specs.Prelude.{Some, None, Vec, Result}
 use Rattle.std.specs.declared.alloc.Global.{Global}
 use Rattle.std.specs.List.{AllByRecursion}
 use Rattle.places.specs.All.{Names, joined, is_text, names_of, Ground, file_at}
@@ -11,10 +11,9 @@ use Rattle.faults.specs.declared.faults.Fault.TheVariants.{TooLarge, Dirty}
 use Rattle.git_objects.specs.All.{oid}
 use Rattle.git_objects.specs.declared.objects.ObjKind.TheVariants.{Blob}
 use Rattle.object_store.specs.declared.objects.NewObject.{NewObject}
-use Rattle.tree_status.specs.All.{git_file_limit}
+use Rattle.tree_status.specs.All.{git_file_limit, WorkFile}
 use Rattle.tree_status.specs.declared.found.WorkingFile.{WorkingFile}
 use Rattle.acts.specs.All.{Reads}
-use Rattle.recursive_save.specs.Changes.{WorkFile}
 use Rattle.recursive_save.specs.Saving.{blobs_limit, sum_fault}
 
 -- What a working file has on a ground.
@@ -34,7 +33,7 @@ AreThere root g files = AllByRecursion (IsThere root g) files
 
 -- The faults of reading a file again: with it the bytes are too many, or it isn't as it was found.
 abbrev pub MayReadBlob : Bool → Names → Ground → WorkingFile → Fault → Type 0
-MayReadBlob tells root g file (TooLarge path size) = Unit {0}
+MayReadBlob tells root g file (TooLarge path size) = (path ≡ file.path) × (blobs_limit < size)
 MayReadBlob tells root g file (Dirty path) = IsTrue tells → IsThere root g file → ⊥
 MayReadBlob tells root g file fault = ⊥
 
@@ -64,7 +63,7 @@ pub record AreBlobs (root : Names) (g : Ground) (files : List WorkingFile)
 
 -- The faults of reading files again: the bytes are too many, or one isn't as it was found.
 abbrev pub MayReadBlobs : Bool → Names → Ground → List WorkingFile → Fault → Type 0
-MayReadBlobs tells root g files (TooLarge path size) = Unit {0}
+MayReadBlobs tells root g files (TooLarge path size) = blobs_limit < size
 MayReadBlobs tells root g files (Dirty path) = IsTrue tells → AreThere root g files → ⊥
 MayReadBlobs tells root g files fault = ⊥
 

@@ -11,12 +11,11 @@ use Rattle.config_text.specs.All.{PlainConfig}
 use Rattle.repository.specs.All.{settings_place}
 use Rattle.object_store.specs.declared.objects.NewObject.{NewObject}
 use Rattle.snapshot.specs.All.{IsBuilt, IsLeastClash}
-use Rattle.recursive_save.specs.Changed.{as_files}
-use Rattle.recursive_save.specs.Changes.{WorkFile, new_entries, change_lines}
+use Rattle.tree_status.specs.All.{as_files, WorkFile, new_entries, IsView}
+use Rattle.recursive_save.specs.Lines.{change_lines}
 use Rattle.recursive_save.specs.Saving.{SavePlan, IsSavePlan, plan_fault, save_commit, dataset_line}
-use Rattle.recursive_save.specs.Views.{IsView}
 use Rattle.recursive_save.specs.declared.planning.Planned.{Planned}
-use Rattle.recursive_save.specs.declared.viewing.View.{View}
+use Rattle.tree_status.specs.declared.viewing.View.{View}
 use Rattle.recursive_save.specs.declared.wishes.SaveWish.{SaveWish}
 
 -- A plan without where it lies in memory.
@@ -37,11 +36,17 @@ IsPlannedOf root wish view g planned =
 abbrev pub IsPlanRefusal : Names → View → Ground → Fault → Type 0
 IsPlanRefusal root view g fault = IsView root g view → plan_fault root g view.old ≡ Some fault
 
+-- What is past a limit where a save is planned: the text of the configuration, or the bytes of the
+-- new blobs.
+abbrev pub IsOverToPlan : Names → List ℕ → ℕ → Type 0
+IsOverToPlan root path size =
+    MayConfigure root (TooLarge path size) ⊎ (blobs_limit < size)
+
 -- The faults of planning, whatever the files tell. Of files that tell, none is other than it was at
 -- the first reading, and none lies above another.
 abbrev pub MayPlan : Bool → Names → Fault → Type 0
 MayPlan tells root (BadLine place line) = place ≡ settings_place root
-MayPlan tells root (TooLarge path size) = Unit {0}
+MayPlan tells root (TooLarge path size) = IsOverToPlan root path size
 MayPlan tells root (Dirty path) = IsTrue tells → ⊥
 MayPlan tells root (PathClash path) = IsTrue tells → ⊥
 MayPlan tells root fault = ⊥

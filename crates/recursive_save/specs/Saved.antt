@@ -1,6 +1,6 @@
 -- What follows of a save.
-use Rattle.std.specs.Prelude.{◌≡◌, ℕ, List, [], ◌∷◌, ◌++◌, Option, Some, None, Result, Ok}
-use Rattle.std.specs.Prelude.{Err, codes}
+use Rattle.std.specs.Prelude.{◌≡◌, ℕ, List, [], ◌∷◌, ◌++◌, Option, Some, None, Result, Ok, Err}
+use Rattle.std.specs.Prelude.{codes}
 use Rattle.places.specs.All.{Names, Ground}
 use Rattle.faults.specs.declared.lines.Line.{Line}
 use Rattle.faults.specs.declared.faults.Fault.{Fault}
@@ -10,14 +10,14 @@ use Rattle.faults.specs.declared.faults.Trouble.{Trouble}
 use Rattle.file_store.specs.All.{Disk, Drive, Since, IsImage, WasOpen, present}
 use Rattle.git_objects.specs.declared.ids.Id.{Id}
 use Rattle.repository.specs.All.{repo_of}
-use Rattle.acts.specs.All.{Act, Ending, Gives, Refuses, Breaks, Moments, last_of}
-use Rattle.acts.specs.All.{IsFixed, Nothing, OldOrNew, NewWithAll}
+use Rattle.acts.specs.All.{Act, Ending, Gives, Refuses, Breaks, Moments, last_of, IsFixed, Nothing}
+use Rattle.acts.specs.All.{OldOrNew, NewWithAll}
 use Rattle.ref_store.specs.All.{IsTipPlace}
 use Rattle.dataset.specs.All.{Sound, IsDataset}
-use Rattle.recursive_save.specs.Changes.{change_line}
+use Rattle.recursive_save.specs.Lines.{change_line}
 use Rattle.recursive_save.specs.Remains.{HeldStay, SameOutside}
 use Rattle.recursive_save.specs.Saving.{IsSave, dataset_line}
-use Rattle.recursive_save.specs.declared.states.Change.{Change}
+use Rattle.tree_status.specs.declared.states.Change.{Change}
 use Rattle.recursive_save.specs.declared.wishes.SaveWish.{SaveWish}
 
 -- Of one ground a save has one act.
@@ -25,15 +25,6 @@ abbrev pub SaveIsOne : Type 0
 SaveIsOne =
     (root : Names) (wish : SaveWish) (g : Ground) (one two : Act (Option Id))
     → IsSave root wish g one → IsSave root wish g two → one ≡ two
-
--- The line of one change.
-abbrev pub IsChangeLine : Line → Type 0
-IsChangeLine line = (change : Change) × (line ≡ change_line change)
-
--- Lines of changes.
-abbrev pub AreChangeLines : List Line → Type 0
-AreChangeLines [] = Unit {0}
-AreChangeLines (line ∷ lines) = IsChangeLine line × AreChangeLines lines
 
 -- The lines of a save that makes a commit: those of changed files, and then that of the dataset.
 abbrev pub AreSaveLines : List Line → Type 0

@@ -1,5 +1,5 @@
 -- What a save of a dataset does, whose files are all kept in git.
-use Rattle.std.specs.Prelude.{◌≡◌, ◌⊎◌, ℕ, ◌+◌, Bool, true, false, IsTrue, ◌&&◌, not, nat_lt}
+use Rattle.std.specs.Prelude.{◌≡◌, ◌⊎◌, ◌<◌, ℕ, ◌+◌, Bool, true, false, IsTrue, ◌&&◌, not, nat_lt}
 use Rattle.std.specs.Prelude.{if◌then◌else◌, List, [], ◌∷◌, ◌++◌, length, Option, Some, None}
 use Rattle.std.specs.Prelude.{Result, Ok, Err, bytes_eq, codes}
 use Rattle.places.specs.All.{Names, text_of, Ground, file_at}
@@ -22,42 +22,10 @@ use Rattle.snapshot.specs.All.{IsFlat, IsFlattenFault, IsBuilt}
 use Rattle.snapshot.specs.declared.entries.Entry.{Entry}
 use Rattle.snapshot.specs.declared.entries.Leaf.{Leaf}
 use Rattle.snapshot.specs.declared.entries.Leaf.TheVariants.{Git, Link, Pin}
-use Rattle.tree_status.specs.All.{walk_fault, working}
-use Rattle.recursive_save.specs.Changes.{WorkFile, new_entries, added, is_changed, change_lines}
-use Rattle.recursive_save.specs.Changes.{new_blobs}
+use Rattle.tree_status.specs.All.{walk_fault, working, WorkFile, new_entries, added, is_changed}
+use Rattle.tree_status.specs.All.{new_blobs}
+use Rattle.recursive_save.specs.Lines.{change_lines}
 use Rattle.recursive_save.specs.declared.wishes.SaveWish.{SaveWish}
-
--- The refusal of the first pin in a snapshot.
-abbrev pub pin_fault : List Entry → Option Fault
-pin_fault [] = None
-pin_fault (entry ∷ list) = or_next (pin_at entry.path entry.leaf) (pin_fault list)
-  where
-    pin_at : List ℕ → Leaf → Option Fault
-    pin_at path (Git id exec) = None
-    pin_at path (Link id) = None
-    pin_at path (Pin id) = Some (UnsupportedMode path)
-
--- A commit of these entries is HEAD's, none of them is a pin, and the walk over the working files
--- isn't refused.
-pub record IsRead (root : Names) (g : Ground) (parent : List ℕ) (old : List Entry) : Type 0 where
-  pub tip : IsTipAt (repo_of root) g (record { 0 = parent })
-  pub flat : IsFlat (repo_of root) parent g old
-  pub plain : pin_fault old ≡ None
-  pub walk : walk_fault root g ≡ None
-
--- Why a snapshot that was read leads no further: a pin in it, or the walk over the working files.
-abbrev pub view_fault : Names → Ground → List Entry → Option Fault
-view_fault root g old = or_next (pin_fault old) (walk_fault root g)
-
--- Why what a save looks at isn't read: HEAD and its branch; the commit and its trees; pins, and the
--- working files.
-abbrev pub IsUnread : Names → Ground → Fault → Type 0
-IsUnread root g fault =
-    (tip_fault (repo_of root) g ≡ Some fault)
-    ⊎ ((parent : List ℕ) × IsTipAt (repo_of root) g (record { 0 = parent })
-    × (IsFlattenFault (repo_of root) parent g fault
-    ⊎ ((old : List Entry) × IsFlat (repo_of root) parent g old
-    × (view_fault root g old ≡ Some fault))))
 
 -- How many bytes a configuration may have.
 abbrev pub settings_limit : ℕ
@@ -185,6 +153,14 @@ pub data IsSave (root : Names) (wish : SaveWish) (g : Ground) : Act (Option Id) 
       → is_changed old (working root g) ≡ true → plan_fault root g old ≡ None
       → IsSavePlan root wish g parent old plan → IsSave root wish g (saves root plan g)
 
+-- What is past a limit where a dataset is saved: where it is looked at; the text of the configuration;
+-- the bytes of the new blobs; the place of the repository, or that of an object in it.
+abbrev pub IsOverToSave : Names → List ℕ → ℕ → Type 0
+IsOverToSave root path size =
+    IsOverToView root path size
+    ⊎ ((path ≡ text_of (settings_place root))
+    ⊎ ((blobs_limit < size) ⊎ IsTooLong (repo_of root) path size))
+
 -- The faults that a save may hand on, whatever the files tell.
 abbrev pub MaySave : Bool → Names → Fault → Type 0
 MaySave tells root (Damaged place) =
@@ -193,9 +169,9 @@ MaySave tells root (Damaged place) =
 MaySave tells root (Missing id) = Unit {0}
 MaySave tells root (BadTree id at) = Unit {0}
 MaySave tells root (BadCommit id at) = Unit {0}
-MaySave tells root (TooLarge path size) = Unit {0}
+MaySave tells root (TooLarge path size) = IsOverToSave root path size
 MaySave tells root (UnsupportedMode path) = Unit {0}
-MaySave tells root (OddKind path) = Unit {0}
+MaySave tells root (OddKind path) = HasPlace root path
 MaySave tells root (Dirty path) = IsTrue tells → ⊥
 MaySave tells root (PathClash path) = IsTrue tells → ⊥
 MaySave tells root (BadLine place line) = place ≡ settings_place root

@@ -5,7 +5,7 @@ ghost use Rattle.faults.specs.declared.faults.Fault.TheVariants.{TooLarge, Dirty
 ghost use Rattle.git_objects.specs.All.{oid};
 ghost use Rattle.git_objects.specs.declared.objects.ObjKind.TheVariants.{Blob};
 ghost use Rattle.recursive_save.specs.Saving.{blobs_limit};
-ghost use Rattle.recursive_save.specs.Changed.{shown};
+ghost use Rattle.tree_status.specs.All.{shown};
 ghost use Rattle.recursive_save.specs.Blobs.{BlobReads, BlobsRead};
 
 use crate::first::{new_object, text};

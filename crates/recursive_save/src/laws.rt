@@ -2,7 +2,6 @@
 ghost use Rattle.recursive_save.specs.Laws.{CreateRefuses, CreateMakes, CreateKeeps};
 ghost use Rattle.recursive_save.specs.Saved.{SaveIsComplete, SaveIsOne, SaveKeeps};
 ghost use Rattle.recursive_save.specs.Soundness.{CreateKeepsSound, SaveKeepsSound};
-ghost use Rattle.recursive_save.specs.Status.{StatusIsComplete, StatusIsOne};
 
 use config_text::{Remote, Section, config_is_read};
 use std::alloc::Global;
@@ -51,14 +50,4 @@ pub fn save_remains()
 /// A save of a sound dataset is refused only for what its user did, for a limit, or for two objects with one id.
 pub fn save_is_complete()
     ensures { SaveIsComplete }
-{}
-
-/// A status ends in one way, by the ground.
-pub fn status_is_one()
-    ensures { StatusIsOne }
-{}
-
-/// The status of a sound dataset is refused only for a limit, or for what a save can't keep.
-pub fn status_is_complete()
-    ensures { StatusIsComplete }
 {}

@@ -4,20 +4,18 @@ ghost use Rattle.file_store.specs.All.{present};
 ghost use Rattle.git_objects.specs.All.{person_text, person_of};
 ghost use Rattle.config_text.specs.All.{plain_config};
 ghost use Rattle.acts.specs.All.{Reads};
-ghost use Rattle.recursive_save.specs.Changed.{ArePaths};
-ghost use Rattle.recursive_save.specs.Changes.{WorkFile, change_lines};
+ghost use Rattle.tree_status.specs.All.{ArePaths, WorkFile, IsView};
+ghost use Rattle.recursive_save.specs.Lines.{change_lines};
 ghost use Rattle.recursive_save.specs.Configured.{HasPerson};
 ghost use Rattle.recursive_save.specs.Saved.{AreSaveLines};
 ghost use Rattle.recursive_save.specs.Saving.{dataset_line, save_commit};
-ghost use Rattle.recursive_save.specs.Planned.{IsPlannedOf, IsPlanRefusal, MayPlan, IsPlanWith, HasWork, PlanFails};
-ghost use Rattle.recursive_save.specs.Planned.{plan_of, IsCommitOn};
-ghost use Rattle.recursive_save.specs.Views.{IsView};
+ghost use Rattle.recursive_save.specs.Planned.{IsPlannedOf, IsPlanRefusal, MayPlan, IsPlanWith};
+ghost use Rattle.recursive_save.specs.Planned.{HasWork, PlanFails, plan_of, IsCommitOn};
 
 use crate::blobs::read_blobs;
-use crate::changes::{added_files, changes_of, lines_of, new_snapshot};
 use crate::configuring::read_settings;
 use crate::first::{new_object, text};
-use crate::viewing::View;
+use crate::lines::lines_of;
 use crate::wishes::SaveWish;
 use config_text::RepoConfig;
 use faults::{Line, Trouble};
@@ -26,6 +24,7 @@ use git_objects::{Commit, Id, ObjErr, ObjKind, Person, object_id};
 use object_store::NewObject;
 use snapshot::build;
 use std::alloc::{AllocError, Global};
+use tree_status::{View, added_files, changes_of, new_snapshot};
 
 /// The objects of a save, its commit's id, and its lines.
 #[derive(Drop)]

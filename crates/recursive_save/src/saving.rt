@@ -7,34 +7,19 @@ ghost use Rattle.repository.specs.All.{repo_of};
 ghost use Rattle.acts.specs.All.{Acts, ActsAs};
 ghost use Rattle.recursive_save.specs.Saved.{AreSaveLines, SaveSays};
 ghost use Rattle.recursive_save.specs.Saving.{dataset_line, IsSave, MaySave, writes};
-ghost use Rattle.recursive_save.specs.Writing.{IsRepo};
 ghost use Rattle.recursive_save.specs.Planned.{plan_of};
 
-use crate::changes::is_changed;
 use crate::collisions::collision;
 use crate::first::text;
 use crate::planning::{Planned, plan};
-use crate::viewing::{View, read_view};
 use crate::wishes::SaveWish;
 use faults::{Line, Trouble};
 use file_store::{Files, Place};
 use git_objects::Id;
 use object_store::put_all;
 use ref_store::set_tip;
-use repository::{PLACE_LIMIT, too_large};
 use std::alloc::{AllocError, Global};
-
-/// The repository of a dataset, refused where HEAD has no place in it.
-#[tactic(auto, unfolding(places::specs::Names::is_path, places::specs::Names::is_name))]
-pub(crate) fn repo(alloc: Global, root: &Place) -> Result<Place, Trouble>
-    ensures { IsRepo root.now result }
-{
-    let head = root.joined(alloc, ".dlrepo/HEAD")?;
-    if PLACE_LIMIT < head.len() {
-        return Err(Trouble::Refused(too_large(head)));
-    }
-    Ok(root.below(alloc, ".dlrepo")?)
-}
+use tree_status::{is_changed, read_view, repo};
 
 // The result line of a dataset in which nothing has changed.
 fn notneeded_line(alloc: Global) -> Result<Line, AllocError>

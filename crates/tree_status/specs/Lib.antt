@@ -1,4 +1,9 @@
 pub mod All
+pub mod Changed
+pub mod Changes
+pub mod Looks
+pub mod Status
 pub mod Tasks
+pub mod Views
 pub mod Walks
 pub mod Working

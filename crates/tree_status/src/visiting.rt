@@ -1,13 +1,13 @@
 // One item of a walk.
-ghost use Rattle.std.specs.Prelude.{◌≡◌, ◌≤◌, ◌++◌, ◌∷◌, [], true, false, List, ℕ, length, codes, IfOk, MatchOption};
-ghost use Rattle.std.specs.Prelude.{Some};
+ghost use Rattle.std.specs.Prelude.{◌≡◌, ◌≤◌, ◌++◌, ◌∷◌, [], true, false, List, ℕ, length, codes};
+ghost use Rattle.std.specs.Prelude.{IfOk, MatchOption, Some};
 ghost use Rattle.places.specs.All.{IsPlace, is_text, joined, names_of, file_at};
 ghost use Rattle.file_store.specs.All.{kind_at};
 ghost use Rattle.acts.specs.All.{Reads};
 ghost use Rattle.faults.specs.declared.faults.Fault.TheVariants.{OddKind, TooLarge, Dirty};
 ghost use Rattle.tree_status.specs.Working.{directory_of, is_nested, item_at, fault_along, git_file_limit};
-ghost use Rattle.tree_status.specs.Walks.{MayMeet, MayFile, MayNest, MayTake, Went, one_of, AddsFile, Takes};
-ghost use Rattle.tree_status.specs.Walks.{IsWorkingPath, RefusesItem, file_fault};
+ghost use Rattle.tree_status.specs.Walks.{MayMeet, MayFile, MayNest, MayTake, Went, one_of};
+ghost use Rattle.tree_status.specs.Walks.{AddsFile, Takes, IsWorkingPath, RefusesItem, file_fault};
 
 use crate::found::{Found, WorkingFile};
 use faults::{Fault, Trouble};
@@ -20,7 +20,8 @@ use std::alloc::{AllocError, Global};
 /// How many bytes a working file may have.
 const GIT_FILE_LIMIT: u64 = 16_777_216;
 
-fn text(alloc: Global, text: &str) -> Result<Text, AllocError>
+/// A copy of a text.
+pub(crate) fn text(alloc: Global, text: &str) -> Result<Text, AllocError>
     ensures { IfOk result (λ copy. copy ≡ text.now) }
 {
     Ok(Text::new(String::from_str(alloc, text)?))

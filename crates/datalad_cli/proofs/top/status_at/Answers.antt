@@ -1,7 +1,7 @@
 use Rattle.std.proofs.Common.{List, ℕ, Ok, inl, sym, subst}
 use Rattle.file_store.specs.All.{present}
 use Rattle.acts.proofs.As.{as_exits, as_unread}
-use Rattle.recursive_save.specs.All.{MayView, StatusEnds}
+use Rattle.tree_status.specs.All.{MayView, StatusEnds}
 use Rattle.datalad_cli.specs.Commands.{CarriesOut, StatusOf}
 use Rattle.datalad_cli.specs.Finding.{location_by}
 use Rattle.datalad_cli.proofs.Acting.{as_after, none_found, found_later}

@@ -5,7 +5,7 @@ use Rattle.acts.proofs.Reading.{read_exits}
 use Rattle.git_objects.specs.declared.objects.ObjKind.TheVariants.{Blob}
 use Rattle.object_store.specs.declared.objects.NewObject.{NewObject}
 use Rattle.tree_status.specs.declared.found.WorkingFile.{WorkingFile}
-use Rattle.recursive_save.specs.Changed.{shown}
+use Rattle.tree_status.specs.All.{shown}
 use Rattle.recursive_save.proofs.BlobFacts.{SoFar, blob_more, blob_fails, map_more}
 use Rattle.recursive_save.proofs.blobs.read_blobs.Goals as goal
 

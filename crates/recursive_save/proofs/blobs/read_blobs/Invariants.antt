@@ -1,6 +1,6 @@
 use Rattle.std.proofs.Common.{◌≤◌, take}
 use Rattle.recursive_save.specs.Saving.{blobs_limit}
-use Rattle.recursive_save.specs.Changed.{shown}
+use Rattle.tree_status.specs.All.{shown}
 use Rattle.recursive_save.proofs.BlobFacts.{SoFar}
 use Rattle.recursive_save.proofs.blobs.read_blobs.Given as goal
 

@@ -1,6 +1,6 @@
 use Rattle.std.proofs.Common.{ap, ◌∙◌}
 use Rattle.acts.proofs.Reading.{read_exits}
-use Rattle.recursive_save.specs.Changed.{shown}
+use Rattle.tree_status.specs.All.{shown}
 use Rattle.recursive_save.proofs.PlanFacts.{Picked, config_fails, blobs_fail, plan_ends}
 use Rattle.recursive_save.proofs.planning.plan.Goals as goal
 

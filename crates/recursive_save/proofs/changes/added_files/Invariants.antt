@@ -1,7 +1,0 @@
-use Rattle.std.proofs.Common.{◌≡◌, take}
-use Rattle.std.specs.List.{filter}
-use Rattle.recursive_save.specs.Changed.{is_new, shown}
-use Rattle.recursive_save.proofs.changes.added_files.Given as goal
-
-abbrev pub invariant-loop-file : goal.invariant-loop-file
-invariant-loop-file l = shown l.list.items ≡ filter (is_new l.old) (take l.file-index l.files)

@@ -1,7 +1,0 @@
-use Rattle.std.proofs.Common.{◌≡◌, take}
-use Rattle.std.specs.List.{filter}
-use Rattle.recursive_save.specs.Changed.{is_gone, shown}
-use Rattle.recursive_save.proofs.changes.deleted_entries.Given as goal
-
-abbrev pub invariant-loop-entry : goal.invariant-loop-entry
-invariant-loop-entry l = shown l.list.items ≡ filter (is_gone l.files) (take l.entry-index l.entry-items)

@@ -1,6 +1,0 @@
-use Rattle.std.proofs.Common.{◌≡◌, ℕ, List, take}
-use Rattle.recursive_save.specs.Changed.{added_state, paths_of, shown, state_at, with_states}
-use Rattle.recursive_save.proofs.changes.keep_added.Given as goal
-
-abbrev pub invariant-loop-file : goal.invariant-loop-file
-invariant-loop-file l = (at : List ℕ) → state_at l.states at ≡ with_states (added_state l.fn.old) (paths_of (shown (take l.file-index l.files))) at (state_at l.fn.states at)

@@ -1,7 +1,0 @@
-use Rattle.std.proofs.Common.{◌≡◌, ℕ, List, map, take}
-use Rattle.recursive_save.specs.Changed.{shown, state_at, with_states}
-use Rattle.recursive_save.specs.declared.states.State.TheVariants.{Deleted}
-use Rattle.recursive_save.proofs.changes.keep_deleted.Given as goal
-
-abbrev pub invariant-loop-entry : goal.invariant-loop-entry
-invariant-loop-entry l = (at : List ℕ) → state_at l.states at ≡ with_states (λ path. Deleted) (map (λ entry. entry.path) (shown (take l.entry-index l.entries))) at (state_at l.fn.states at)

@@ -1,6 +1,0 @@
-use Rattle.std.proofs.Common.{◌≡◌, map, take}
-use Rattle.recursive_save.specs.Changed.{file_entry}
-use Rattle.recursive_save.proofs.changes.new_snapshot.Given as goal
-
-abbrev pub invariant-loop-file : goal.invariant-loop-file
-invariant-loop-file l = l.entries.items ≡ map (file_entry l.old) (take l.file-index l.files)

@@ -1,7 +1,0 @@
-use Rattle.std.proofs.Common.{◌≡◌, take}
-use Rattle.std.specs.List.{flat_map}
-use Rattle.recursive_save.specs.Status.{status_line}
-use Rattle.recursive_save.proofs.stating.text_of.Given as goal
-
-abbrev pub invariant-loop-change : goal.invariant-loop-change
-invariant-loop-change l = l.text.items ≡ flat_map status_line (take l.change-index l.changes)
