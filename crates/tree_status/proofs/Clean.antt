@@ -1,16 +1,15 @@
 -- Nothing is among the changes exactly where nothing has changed.
-use Rattle.std.proofs.Common.{◌≡◌, ℕ, Bool, true, false, not, ◌||◌, List, [], ◌∷◌, ◌++◌, cond, map, Option, Some, None, refl, sym, ap, ◌∙◌}
-use Rattle.std.specs.FinMap.{entries, find, from_entries, get, get-from_entries}
+use Rattle.std.proofs.Common.{◌≡◌, ℕ, false, not, ◌||◌, List, [], ◌∷◌, ◌++◌, cond, length, map, Some, None, refl, sym, ap, ◌∙◌, arith}
+use Rattle.std.specs.FinMap.{entries, find, from_entries, get, get-entries, get-from_entries, len-empty, len-entries}
 use Rattle.std.specs.Ordering.{nat_cmp}
 use Rattle.std.specs.Cmp.Lexicographic.{slice_cmp}
 use Rattle.std.specs.declared.cmp.Ordering.{Ordering}
 use Rattle.std.proofs.lemmas.Cmp.{nat_list_cmp_total, eq_by_cmp_equiv}
 use Rattle.places.proofs.Texts.{or_neither}
 use Rattle.snapshot.specs.declared.entries.Entry.{Entry}
-use Rattle.tree_status.specs.Changes.{StateMap, WorkFile, added, change_at, changes, deleted}
+use Rattle.tree_status.specs.Changes.{WorkFile, added, change_at, changes, deleted}
 use Rattle.tree_status.specs.Changes.{is_changed, is_nothing, leaf_at, new_state, states_by_path}
 use Rattle.tree_status.specs.Status.{CleanIsUnchanged}
-use Rattle.tree_status.specs.declared.states.Change.{Change}
 use Rattle.tree_status.specs.declared.states.State.{State}
 use Rattle.tree_status.specs.declared.states.State.TheVariants.{Deleted}
 
@@ -22,12 +21,11 @@ States = List (List ℕ × State)
 
 -- NO ENTRY of a map that is made of some
 no_entry : (one : List ℕ × State) (rest : States) → entries (from_entries {R = order} (one ∷ rest)) ≡ [] → ⊥
-unfolding get
 no_entry one rest none =
     let found : get (from_entries {R = order} (one ∷ rest)) one.0 ≡ Some one.1 =
     get-from_entries nat_list_cmp_total (one ∷ rest) one.0
     ∙ ap (λ b. cond b (Some one.1) (find order one.0 rest)) ((eq_by_cmp_equiv nat_list_cmp_total).refl one.0) in
-    let lost : get (from_entries {R = order} (one ∷ rest)) one.0 ≡ None = ap (find order one.0) none in
+    let lost : get (from_entries {R = order} (one ∷ rest)) one.0 ≡ None = get-entries (from_entries {R = order} (one ∷ rest)) one.0 ∙ ap (find order one.0) none in
     some_or_none (sym found ∙ lost)
   where
     some_or_none : Some one.1 ≡ None → ⊥
@@ -38,6 +36,13 @@ none_of [] none = refl
 none_of (one ∷ rest) none = absurd (no_entry one rest none)
 
 -- LISTS
+no_length : {A : Type 0} (list : List A) → length list ≡ 0 → list ≡ []
+no_length [] none = refl
+no_length (x ∷ list) none = absurd (omega (arith, none))
+
+no_states : entries (from_entries {X = State} {R = order} []) ≡ []
+no_states = no_length (entries (from_entries {R = order} [])) (sym (len-entries (from_entries {R = order} [])) ∙ len-empty order State)
+
 none_mapped : {A B : Type 0} (f : A → B) (list : List A) → map f list ≡ [] → list ≡ []
 none_mapped f [] none = refl
 none_mapped f (x ∷ list) none = absurd (cc none)
@@ -66,7 +71,9 @@ module _ (old : List Entry) (files : List WorkFile) where
       let both = or_neither (not (is_nothing (added old files))) (not (is_nothing (deleted old files))) none in
       let new = is_none (added old files) both.0 in
       let gone = is_none (deleted old files) both.1 in
-      λ i. map (λ entry. change_at entry.0 entry.1) (entries (from_entries {R = order} (map (λ file. (file.0, new_state (leaf_at file.0 old))) (new i) ++ map (λ entry. (entry.path, Deleted)) (gone i))))
+      let states : states_by_path old files ≡ [] = λ i. map (λ file. (file.0, new_state (leaf_at file.0 old))) (new i) ++ map (λ entry. (entry.path, Deleted)) (gone i) in
+      ap (λ (s : States). map (λ entry. change_at entry.0 entry.1) (entries (from_entries {R = order} s))) states
+      ∙ ap (map (λ entry. change_at entry.0 entry.1)) no_states
 
 pub clean_unchanged : CleanIsUnchanged
 clean_unchanged old files = (unchanged old files, clean old files)

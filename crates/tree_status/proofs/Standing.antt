@@ -1,6 +1,6 @@
 -- The working files stand on the ground, each at its place with its bytes.
-use Rattle.std.proofs.Common.{◌≡◌, ◌≤◌, ◌+◌, ℕ, Bool, true, false, cond, List, [], ◌∷◌, ◌++◌, map, length, Option, Some, None, refl, sym, ap, ◌∙◌, subst, append_assoc}
-use Rattle.std.specs.Prelude.{is_some, nat_le, codes, unwrap_or}
+use Rattle.std.proofs.Common.{◌≡◌, ◌≤◌, ◌+◌, ℕ, Bool, true, false, cond, List, [], ◌∷◌, ◌++◌, length, Option, Some, None, refl, sym, ap, ◌∙◌, append_assoc}
+use Rattle.std.specs.Prelude.{is_some, nat_le, codes}
 use Rattle.std.specs.List.{AllByRecursion}
 use Rattle.std.specs.FinMap.{entries}
 use Rattle.std.proofs.lemmas.Bool.{leb-true}
@@ -11,13 +11,12 @@ use Rattle.file_store.specs.All.{or_next}
 use Rattle.faults.specs.declared.faults.Fault.{Fault}
 use Rattle.faults.specs.declared.faults.Fault.TheVariants.{TooLarge}
 use Rattle.repository.specs.All.{item_limit}
-use Rattle.tree_status.specs.All.{walk_fault, working, as_file, ItemKind, Directory, Nested}
+use Rattle.tree_status.specs.All.{walk_fault, working, ItemKind, Directory, Nested}
 use Rattle.tree_status.specs.All.{Working, items, item_kind, is_nested, git_file_limit}
 use Rattle.tree_status.specs.All.{directory_of, item_fault, fault_along, files_among}
 use Rattle.tree_status.proofs.Items.{IsFound, each_item, whole_of, pieces_of}
 use Rattle.tree_status.proofs.Paths.{names_whole}
 use Rattle.tree_status.specs.Changes.{WorkFile}
-use Rattle.tree_status.specs.Changed.{as_files}
 
 -- a file at its place
 pub record IsStanding (root : Names) (g : Ground) (file : WorkFile) : Type 0 where

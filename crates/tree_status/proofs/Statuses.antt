@@ -1,6 +1,7 @@
 -- A status: what it looks at, and what it says of that.
 use Rattle.std.proofs.Common.{◌≡◌, inl, ℕ, Bool, true, false, cond, List, [], ◌∷◌, Option, Some, None, Result, Ok, Err, Vec, refl, sym, ap, ◌∙◌, subst}
 use Rattle.std.specs.Prelude.{length, nat_lt}
+use Rattle.std.proofs.lemmas.Bool.{ltb-true}
 use Rattle.std.specs.List.{flat_map}
 use Rattle.std.specs.declared.alloc.Global.{Global}
 use Rattle.places.specs.All.{Names, longest, text_of}
@@ -43,7 +44,7 @@ module _ (tells : Bool) (root : Names) where
       by true long e =
           let place = repo_head (repo_of root) in
           let same : TooLarge (text_of place) (length (text_of place)) ≡ fault = cc e in
-          subst (MayView tells root) same (inl (place, (None, tt, refl), (refl, refl, ltb-lt longest (length (text_of place)) long)))
+          subst (MayView tells root) same (inl (place, (None, tt, refl), (refl, refl, ltb-true longest (length (text_of place)) long)))
       by false short e = absurd (cc e)
 
   -- HEAD has no place

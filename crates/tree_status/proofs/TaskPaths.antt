@@ -1,10 +1,10 @@
 -- The paths of tasks: each name in them is working, and what makes no place is past a limit.
-use Rattle.std.proofs.Common.{◌≡◌, ◌≤◌, ◌<◌, ◌+◌, inl, inr, ℕ, Bool, true, false, not, ◌&&◌, ◌||◌, List, [], ◌∷◌, ◌++◌, length, refl, sym, ap, ◌∙◌, append_assoc, append-nil, arith, length-append}
+use Rattle.std.proofs.Common.{◌≡◌, ◌≤◌, ◌<◌, ◌+◌, inl, inr, ℕ, Bool, true, false, not, ◌&&◌, List, [], ◌∷◌, ◌++◌, length, refl, sym, ap, ◌∙◌, append_assoc, append-nil, arith, length-append}
 use Rattle.std.specs.Prelude.{◌==◌, nat_lt, nat_le, bytes_eq}
-use Rattle.std.specs.List.{AllByRecursion, list_all, list_any}
+use Rattle.std.specs.List.{list_all, list_any}
 use Rattle.std.proofs.lemmas.Bool.{false≢true}
 use Rattle.places.specs.All.{Names, IsPlace, slash, longest, slashed, pieces, names_of, is_name}
-use Rattle.places.specs.All.{is_path, is_text, joined, text_of}
+use Rattle.places.specs.All.{is_path, is_text, joined}
 use Rattle.places.proofs.Texts.{and_both, or_neither}
 use Rattle.places.proofs.Cuts.{below_text, below_place}
 use Rattle.places.proofs.Grammar.{is_text-complete}

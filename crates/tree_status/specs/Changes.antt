@@ -1,6 +1,6 @@
 -- What has changed between a snapshot and the working files.
 use Rattle.std.specs.Prelude.{ℕ, Bool, true, false, not, ◌||◌, if◌then◌else◌, List, [], ◌∷◌, ◌++◌}
-use Rattle.std.specs.Prelude.{map, Option, Some, None, bytes_eq, codes}
+use Rattle.std.specs.Prelude.{map, Option, Some, None, bytes_eq}
 use Rattle.std.specs.List.{filter, list_any}
 use Rattle.std.specs.FinMap.{FinMap, from_entries, entries}
 use Rattle.std.specs.Ordering.{nat_cmp}

@@ -8,7 +8,7 @@ use Rattle.snapshot.specs.declared.entries.Entry.{Entry}
 use Rattle.tree_status.specs.Working.{working}
 use Rattle.dataset.specs.All.{IsDataset, Sound}
 use Rattle.tree_status.specs.Changed.{AreOrdered}
-use Rattle.tree_status.specs.Changes.{changes}
+use Rattle.tree_status.specs.Changes.{WorkFile, changes, is_changed}
 use Rattle.tree_status.specs.Looks.{IsRead, IsUnread}
 use Rattle.tree_status.specs.declared.states.Change.{Change}
 use Rattle.tree_status.specs.declared.states.State.{State}

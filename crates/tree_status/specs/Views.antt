@@ -8,7 +8,7 @@ use Rattle.faults.specs.declared.faults.Fault.TheVariants.{Dirty}
 use Rattle.repository.specs.All.{repo_of, object_place}
 use Rattle.ref_store.specs.All.{IsTipPlace, MayReadTip}
 use Rattle.snapshot.specs.All.{MayFlatten}
-use Rattle.tree_status.specs.Walks.{as_file}
+use Rattle.tree_status.specs.Walks.{HasPlace, IsBeyond, as_file}
 use Rattle.tree_status.specs.Working.{working}
 use Rattle.tree_status.specs.Looks.{IsRead}
 use Rattle.tree_status.specs.declared.viewing.View.{View}

@@ -1,4 +1,4 @@
-use Rattle.std.proofs.Common.{◌≡◌, ◌≤◌, ◌+◌, ◌-◌, ◌*◌, length, take}
+use Rattle.std.proofs.Common.{◌≡◌, ◌+◌, ◌-◌, ◌*◌, length, take}
 use Rattle.std.specs.Prelude.{IsTrue}
 use Rattle.file_store.specs.All.{present}
 use Rattle.tree_status.specs.Working.{items}
