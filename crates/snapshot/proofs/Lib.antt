@@ -1,4 +1,6 @@
+pub mod Annexing
 pub mod Apart
+pub mod Ascending
 pub mod Descent
 pub mod Faultless
 pub mod FirstFault
@@ -10,6 +12,8 @@ pub mod Once
 pub mod Order
 pub mod Ordered
 pub mod Paths
+pub mod Pointers
+pub mod Small
 pub mod Sorted
 pub mod Standing
 pub mod Told
