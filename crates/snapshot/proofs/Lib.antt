@@ -1,6 +1,7 @@
 pub mod Annexing
 pub mod Apart
 pub mod Ascending
+pub mod Blobs
 pub mod Descent
 pub mod Faultless
 pub mod FirstFault
@@ -12,7 +13,6 @@ pub mod Once
 pub mod Order
 pub mod Ordered
 pub mod Paths
-pub mod Pointers
 pub mod Small
 pub mod Sorted
 pub mod Standing
