@@ -47,22 +47,22 @@ has_back (x ∷ xs) ys path key h = inr (has_back xs ys path key h)
 -- ---- the first key at a path
 pub key_at_has : (path : List ℕ) (xs : List Pointer) (key : PlainKey) → key_at path xs ≡ Some key → HasKey xs path key
 key_at_has path [] key e = absurd (cc e)
-key_at_has path (x ∷ xs) key e = by (bytes_eq x.path path) refl e
+key_at_has path (x ∷ xs) key e = by (bytes_eq x.path path) refl (key_at_has path xs key) e
   where
-    by : (b : Bool) → bytes_eq x.path path ≡ b → cond b (Some x.key) (key_at path xs) ≡ Some key → HasKey (x ∷ xs) path key
-    by true same is = inl ((bytes_eq-Decides x.path path).0 same, cc is)
-    by false other is = inr (key_at_has path xs key is)
+    by : (b : Bool) → bytes_eq x.path path ≡ b → (key_at path xs ≡ Some key → HasKey xs path key) → cond b (Some x.key) (key_at path xs) ≡ Some key → HasKey (x ∷ xs) path key
+    by true same later is = inl ((bytes_eq-Decides x.path path).0 same, cc is)
+    by false other later is = inr (later is)
 
 pub has_key_at : (path : List ℕ) (xs : List Pointer) (key : PlainKey) → AreAscending xs → HasKey xs path key → key_at path xs ≡ Some key
 has_key_at path [] key ascending h = absurd h
 has_key_at path (x ∷ xs) key ascending (inl (is, of)) = ap (λ b. cond b (Some x.key) (key_at path xs)) ((bytes_eq-Decides x.path path).1 is) ∙ ap Some of
-has_key_at path (x ∷ xs) key ascending (inr h) = by (bytes_eq x.path path) refl
+has_key_at path (x ∷ xs) key ascending (inr h) = by (bytes_eq x.path path) refl (has_key_at path xs key ascending.1 h)
   where
-    by : (b : Bool) → bytes_eq x.path path ≡ b → cond b (Some x.key) (key_at path xs) ≡ Some key
-    by true same =
+    by : (b : Bool) → bytes_eq x.path path ≡ b → key_at path xs ≡ Some key → cond b (Some x.key) (key_at path xs) ≡ Some key
+    by true same later =
         let past : Below x.path path = has_path (λ p. Below x.path p) xs path key ascending.0 h in
         absurd (not_below_itself path (subst (λ (p : List ℕ). Below p path) ((bytes_eq-Decides x.path path).0 same) past))
-    by false other = has_key_at path xs key ascending.1 h
+    by false other later = later
 
 -- ---- one list has these keys
 below_both : (x y : List ℕ) → Below x y → Below y x → ⊥

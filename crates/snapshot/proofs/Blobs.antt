@@ -1,7 +1,6 @@
 -- Which blobs are pointers, and what is refused.
-use Rattle.std.proofs.Common.{◌≡◌, ◌≤◌, ◌<◌, ◌+◌, ◌++◌, ◌∷◌, [], ℕ, Bool, true, false, cond, nat_lt, IsTrue, List, length, Option, Some, None, Result, Ok, Err, Vec, inl, inr, refl, sym, ap, ◌∙◌, subst, arith}
+use Rattle.std.proofs.Common.{◌≡◌, ◌≤◌, ◌<◌, ◌+◌, ◌++◌, ◌∷◌, [], ℕ, Bool, true, false, cond, IsTrue, List, length, Option, Some, None, Result, Ok, Err, Vec, inl, inr, refl, sym, ap, ◌∙◌, subst, arith}
 use Rattle.std.specs.declared.alloc.Global.{Global}
-use Rattle.std.specs.Prelude.{MatchOption}
 use Rattle.std.proofs.lemmas.Bool.{lt-ltb, le-ltb, false≢true}
 use borrow.Author.Tests.{ltb-true, ltb-false}
 use Rattle.places.specs.All.{Names, text_of, Ground, file_at}
@@ -17,7 +16,7 @@ use Rattle.git_objects.specs.declared.objects.ObjKind.TheVariants.{Blob, Tree, C
 use Rattle.repository.specs.All.{held_at, object_of, object_place, object_limit, object_body_limit, large}
 use Rattle.repository.proofs.Holds.{held_is}
 use Rattle.acts.specs.All.{Reads}
-use Rattle.acts.proofs.Reading.{read_gives, read_refuses, read_starves, read_err}
+use Rattle.acts.proofs.Reading.{read_after, read_gives, read_refuses, read_starves, read_err}
 use Rattle.object_store.specs.All.{IsGot, MayGet, MayGetBody, get_fault, is_kind, kind_fault, missing_fault, object_seen}
 use Rattle.object_store.proofs.Gets.{Gets, get_large}
 use Rattle.object_store.proofs.Within.{held_read}
@@ -76,10 +75,14 @@ get_body_may repo id (Missing other) h = absurd h
 get_body_may repo id fault h = h
 
 -- ---- the reading of one blob
-module _ (tells : Bool) (repo : Names) (id : List ℕ) (old new : Drive) where
-  abbrev pub Longs : Result Bool Trouble → Type 0
-  Longs result = Reads (λ _. ⊥) tells (λ g long. long ≡ is_long (file_at g (object_place repo id))) (λ _ _. ⊥) old new result
+abbrev pub LongReads : Bool → Names → Drive → Drive → Result Bool Trouble → Type 0
+LongReads tells place old new result = Reads (λ _. ⊥) tells (λ g long. long ≡ is_long (file_at g place)) (λ _ _. ⊥) old new result
 
+pub short_file : (tells : Bool) (repo : Names) (id : List ℕ) (old mid : Drive) (place : Names) (long : Bool) → place ≡ object_place repo id → long ≡ false → LongReads tells place old mid (Ok long) → LongReads tells (object_place repo id) old mid (Ok false)
+short_file tells repo id old mid place long at short reads =
+    subst (λ (b : Bool). LongReads tells (object_place repo id) old mid (Ok b)) short (subst (λ (p : Names). LongReads tells p old mid (Ok long)) at reads)
+
+module _ (tells : Bool) (repo : Names) (id : List ℕ) (old new : Drive) where
   abbrev pub Smalls : Result (Option (Vec ℕ Global)) Trouble → Type 0
   Smalls result = Reads (λ fault. MayGetBody repo id fault) tells (λ g blob. IsSmallBlob repo id g blob) (λ g fault. pointer_fault repo id g ≡ Some fault) old new result
 
@@ -87,38 +90,53 @@ module _ (tells : Bool) (repo : Names) (id : List ℕ) (old new : Drive) where
   small_no_places fault stood long is same = read_refuses (subst (λ (z : Fault). MayGetBody repo id z) (sym is) (inr (refl, refl, long))) stood (λ t. (same t, fault_large repo id (present old) long ∙ ap Some (sym is)))
 
   module _ (fits : length (text_of repo) ≤ object_limit) where
-    pub small_unknown : (e : Trouble) → Longs (Err e) → Smalls (Err e)
+    pub small_unknown : (e : Trouble) → LongReads tells (object_place repo id) old new (Err e) → Smalls (Err e)
     small_unknown e reads = read_err (λ fault h. absurd h) (λ fault h. absurd h) reads
 
-    pub small_long : Longs (Ok true) → Smalls (Ok None)
+    pub small_long : LongReads tells (object_place repo id) old new (Ok true) → Smalls (Ok None)
     small_long reads = read_gives reads.later (λ t.
         let was = reads.told t in
         (was.same, (fault_long repo id (present old) fits (sym was.answer), long_no_pointer repo id (present old) (sym was.answer))))
 
-    module _ (short : IsTrue tells → is_long (file_at (present old) (object_place repo id)) ≡ false) where
+    module _ (mid : Drive) (longs : LongReads tells (object_place repo id) old mid (Ok false)) where
+      since : (result : Result (Option (ObjKind × Vec ℕ Global)) Trouble) → Gets tells repo id mid new result → Gets tells repo id old new result
+      since result gets = read_after longs.later (λ t. (longs.told t).same) gets
+
       read_fault : IsTrue tells → (fault : Option Fault) (found : Option Object) → get_fault repo id (present old) ≡ fault → found ≡ held_at (present old) repo id → pointer_fault repo id (present old) ≡ or_next fault (missing_fault id Blob found)
-      read_fault t fault found e f = fault_kind repo id (present old) fits (short t) ∙ (λ i. or_next (e i) (missing_fault id Blob (sym f i)))
+      read_fault t fault found e f = fault_kind repo id (present old) fits (sym (longs.told t).answer) ∙ (λ i. or_next (e i) (missing_fault id Blob (sym f i)))
 
-      pub small_stops : (e : Trouble) → Gets tells repo id old new (Err e) → Smalls (Err e)
-      small_stops (Refused fault) reads = read_refuses (get_body_may repo id fault reads.cause) reads.later (λ t. ((reads.told t).same, read_fault t (Some fault) _ (reads.told t).answer refl))
-      small_stops Device reads = record { later = reads.later; cause = tt; told = λ t. record { same = (reads.told t).same; answer = tt } }
-      small_stops NoMemory reads = read_starves reads.later (λ t. (reads.told t).same)
+      pub small_stops : (e : Trouble) → Gets tells repo id mid new (Err e) → Smalls (Err e)
+      small_stops (Refused fault) gets =
+          let reads = since (Err (Refused fault)) gets in
+          read_refuses (get_body_may repo id fault reads.cause) reads.later (λ t. ((reads.told t).same, read_fault t (Some fault) _ (reads.told t).answer refl))
+      small_stops Device gets =
+          let reads = since (Err Device) gets in
+          record { later = reads.later; cause = tt; told = λ t. record { same = (reads.told t).same; answer = tt } }
+      small_stops NoMemory gets =
+          let reads = since (Err NoMemory) gets in
+          read_starves reads.later (λ t. (reads.told t).same)
 
-      pub small_missing : Gets tells repo id old new (Ok None) → Smalls (Err (Refused (Missing id)))
-      small_missing reads = read_refuses refl reads.later (λ t.
+      pub small_missing : Gets tells repo id mid new (Ok None) → Smalls (Err (Refused (Missing id)))
+      small_missing gets =
+          let reads = since (Ok None) gets in
+          read_refuses refl reads.later (λ t.
           let was = reads.told t in
           (was.same, read_fault t None None was.answer.0 was.answer.1))
 
-      pub small_other : (kind : ObjKind) (body : Vec ℕ Global) → is_kind kind Blob ≡ false → Gets tells repo id old new (Ok (Some (kind, body))) → Smalls (Err (Refused (Missing id)))
-      small_other kind body other reads = read_refuses refl reads.later (λ t.
+      pub small_other : (kind : ObjKind) (body : Vec ℕ Global) → is_kind kind Blob ≡ false → Gets tells repo id mid new (Ok (Some (kind, body))) → Smalls (Err (Refused (Missing id)))
+      small_other kind body other gets =
+          let reads = since (Ok (Some (kind, body))) gets in
+          read_refuses refl reads.later (λ t.
           let was = reads.told t in
           (was.same, read_fault t None (Some (record { kind = kind; body = body.items })) was.answer.0 was.answer.1 ∙ ap (λ b. cond b None (Some (Missing id))) other))
 
-      pub small_is : (body : Vec ℕ Global) → Gets tells repo id old new (Ok (Some (Blob, body))) → Smalls (Ok (Some body))
-      small_is body reads = read_gives reads.later (λ t.
+      pub small_is : (body : Vec ℕ Global) → Gets tells repo id mid new (Ok (Some (Blob, body))) → Smalls (Ok (Some body))
+      small_is body gets =
+          let reads = since (Ok (Some (Blob, body))) gets in
+          read_gives reads.later (λ t.
           let was = reads.told t in
           (was.same, (
             read_fault t None (Some (record { kind = Blob; body = body.items })) was.answer.0 was.answer.1,
             sym was.answer.1,
-            short_body repo id body.items (present old) (sym was.answer.1) (short t),
+            short_body repo id body.items (present old) (sym was.answer.1) (sym (longs.told t).answer),
           )))
