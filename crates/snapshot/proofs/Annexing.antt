@@ -46,6 +46,14 @@ may_among repo [] rest x fault may = inl may
 may_among repo (y ∷ xs) rest x fault may = inr (may_among repo xs rest x fault may)
 
 -- ---- entries of a list whose paths ascend
+each_cut : (P : Entry → Type 0) (xs ys : List Entry) → Each P (xs ++ ys) → Each P xs
+each_cut P [] ys each = tt
+each_cut P (x ∷ xs) ys each = (each.0, each_cut P xs ys each.1)
+
+pub sorted_cut : (xs ys : List Entry) → IsSorted (xs ++ ys) → IsSorted xs
+sorted_cut [] ys sorted = tt
+sorted_cut (x ∷ xs) ys sorted = (each_cut (λ y. Below x.path y.path) xs ys sorted.0, sorted_cut xs ys sorted.1)
+
 sorted_last : (xs : List Entry) (e f : Entry) → IsSorted (xs ++ e ∷ []) → Has xs f → Below f.path e.path
 sorted_last [] e f sorted has = absurd has
 sorted_last (x ∷ xs) e f sorted (inl is) = subst (λ (z : Entry). Below z.path e.path) is (each_at (λ y. Below x.path y.path) (xs ++ e ∷ []) e sorted.0 (has_back xs (e ∷ []) e (inl refl)))
