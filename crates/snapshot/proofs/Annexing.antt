@@ -1,5 +1,5 @@
 -- Which of some entries are annexed, one after the other.
-use Rattle.std.proofs.Common.{◌≡◌, ◌↔◌, ◌++◌, ◌∷◌, [], ℕ, Bool, IsTrue, List, Option, Some, None, Result, Ok, Err, Vec, inl, inr, ◌⊎◌, refl, sym, ap, ◌∙◌, subst, arith}
+use Rattle.std.proofs.Common.{◌≡◌, ◌++◌, ◌∷◌, [], ℕ, Bool, List, Option, Some, None, Result, Ok, Err, Vec, inl, inr, ◌⊎◌, refl, sym, ap, ◌∙◌, subst}
 use Rattle.std.specs.declared.alloc.Global.{Global}
 use Rattle.places.specs.All.{Names, Ground}
 use Rattle.annex_keys.specs.All.{IsPointer, PlainKey}
@@ -14,7 +14,7 @@ use Rattle.acts.specs.All.{Reads}
 use Rattle.acts.proofs.Reading.{read_after, read_gives, read_refuses, read_starves}
 use Rattle.snapshot.specs.Laws.{KeysAreOfLeaves, PointersHaveOneEnd}
 use Rattle.snapshot.specs.Order.{Below, Each, Has, HasLeaf, IsSorted, LacksPath}
-use Rattle.snapshot.specs.Pointers.{AreAscending, AreOfFiles, ArePointed, ArePointers, EachPointer, HasAnnexed, HasFile, HasKey, IsAnnexed, IsFile, IsPointed, MayPoint, MayPointAt, annex_fault, key_at, pointers_fault}
+use Rattle.snapshot.specs.Pointers.{AreAscending, AreOfFiles, ArePointed, ArePointers, HasAnnexed, HasFile, HasKey, IsAnnexed, IsFile, IsPointed, MayPoint, MayPointAt, annex_fault, key_at, pointers_fault}
 use Rattle.snapshot.specs.declared.entries.Entry.{Entry}
 use Rattle.snapshot.specs.declared.entries.Leaf.{Leaf}
 use Rattle.snapshot.specs.declared.entries.Leaf.TheVariants.{Git, Link, Pin}

@@ -1,24 +1,24 @@
 -- Which blobs are pointers, and what is refused.
-use Rattle.std.proofs.Common.{◌≡◌, ◌≤◌, ◌<◌, ◌+◌, ◌++◌, ◌∷◌, [], ℕ, Bool, true, false, cond, IsTrue, List, length, Option, Some, None, Result, Ok, Err, Vec, inl, inr, refl, sym, ap, ◌∙◌, subst, arith}
+use Rattle.std.proofs.Common.{◌≡◌, ◌≤◌, ◌<◌, ℕ, Bool, true, false, cond, IsTrue, List, length, Option, Some, None, Result, Ok, Err, Vec, inr, refl, sym, ap, ◌∙◌, subst, arith}
 use Rattle.std.specs.declared.alloc.Global.{Global}
-use Rattle.std.proofs.lemmas.Bool.{lt-ltb, le-ltb, false≢true}
+use Rattle.std.proofs.lemmas.Bool.{lt-ltb, le-ltb}
 use borrow.Author.Tests.{ltb-true, ltb-false}
 use Rattle.places.specs.All.{Names, text_of, Ground, file_at}
-use Rattle.annex_keys.specs.All.{IsPointer, PlainKey}
+use Rattle.annex_keys.specs.All.{PlainKey}
 use Rattle.faults.specs.declared.faults.Fault.{Fault}
-use Rattle.faults.specs.declared.faults.Fault.TheVariants.{Damaged, Missing, TooLarge}
+use Rattle.faults.specs.declared.faults.Fault.TheVariants.{Missing, TooLarge}
 use Rattle.faults.specs.declared.faults.Trouble.{Trouble}
 use Rattle.faults.specs.declared.faults.Trouble.TheVariants.{Refused, Device, NoMemory}
 use Rattle.file_store.specs.All.{Drive, present, or_next}
 use Rattle.git_objects.specs.All.{Object, text_of_object}
 use Rattle.git_objects.specs.declared.objects.ObjKind.{ObjKind}
-use Rattle.git_objects.specs.declared.objects.ObjKind.TheVariants.{Blob, Tree, Commit, Tag}
-use Rattle.repository.specs.All.{held_at, object_of, object_place, object_limit, object_body_limit, large}
+use Rattle.git_objects.specs.declared.objects.ObjKind.TheVariants.{Blob}
+use Rattle.repository.specs.All.{held_at, object_place, object_limit, large}
 use Rattle.repository.proofs.Holds.{held_is}
 use Rattle.acts.specs.All.{Reads}
 use Rattle.acts.proofs.Reading.{read_after, read_gives, read_refuses, read_starves, read_err}
-use Rattle.object_store.specs.All.{IsGot, MayGet, MayGetBody, get_fault, is_kind, kind_fault, missing_fault, object_seen}
-use Rattle.object_store.proofs.Gets.{Gets, get_large}
+use Rattle.object_store.specs.All.{MayGet, MayGetBody, get_fault, is_kind, kind_fault, missing_fault}
+use Rattle.object_store.proofs.Gets.{Gets}
 use Rattle.object_store.proofs.Within.{held_read}
 use Rattle.snapshot.specs.Pointers.{IsPointerAt, IsSmallBlob, is_long, pointer_fault, pointer_file_limit, pointer_limit}
 use Rattle.snapshot.proofs.Small.{small_file, small_body}

@@ -1,18 +1,15 @@
-use Rattle.std.proofs.Common.{◌≡◌, ◌≤◌, ◌<◌, ◌∙◌, Bool, IsTrue, length, List, ℕ, Option, Some, None, Vec, Ok, Err, Result, true, false, refl, sym, ap, subst, arith, rules}
+use Rattle.std.proofs.Common.{◌≡◌, ◌≤◌, ◌<◌, ◌∙◌, Bool, length, ℕ, Option, Some, Vec, Ok, false, refl, sym, subst, rules}
 use Rattle.std.specs.declared.alloc.Global.{Global}
 use denote.Enum.Bare.{differs_true, differs_false}
-use Rattle.places.specs.All.{Names, text_of, file_at}
-use Rattle.faults.specs.declared.faults.Trouble.{Trouble}
-use Rattle.file_store.specs.All.{present}
+use Rattle.places.specs.All.{Names, text_of}
 use Rattle.git_objects.specs.declared.objects.ObjKind.{ObjKind}
 use Rattle.git_objects.specs.declared.objects.ObjKind.TheVariants.{Blob, Tree, Commit, Tag}
 use Rattle.git_objects.specs.contracts.ObjKind.{the_type}
 use Rattle.object_store.specs.All.{is_kind}
 use Rattle.repository.specs.All.{object_place}
-use Rattle.acts.proofs.Reading.{read_after, read_exits}
+use Rattle.acts.proofs.Reading.{read_exits}
 use Rattle.object_store.proofs.Gets.{Gets}
-use Rattle.snapshot.specs.Pointers.{is_long}
-use Rattle.snapshot.proofs.Blobs.{LongReads, short_file, small_missing, small_is, small_long, small_no_places, small_other, small_stops, small_unknown}
+use Rattle.snapshot.proofs.Blobs.{LongReads, short_file, small_missing, small_is, small_long, small_no_places, small_other, small_stops}
 use Rattle.snapshot.proofs.pointing.small_blob.Goals as goal
 
 other_kind : (kind : ObjKind) → (kind ≡ Blob → ⊥) → is_kind kind Blob ≡ false
