@@ -168,8 +168,7 @@ module _ (tells : Bool) (repo : Names) where
         let ascending = subst AreAscending more files.ascending in
         read_gives leaf.later (λ t.
         let was = (so_far.told t).answer in
-        let is = (leaf.told t).answer in
-        (
+        let is = (leaf.told t).answer in (
           (leaf.told t).same,
           (
             none_more repo (present old) xs e was.0 is.0,
@@ -192,10 +191,16 @@ module _ (tells : Bool) (repo : Names) where
         read_starves leaf.later (λ t. (leaf.told t).same)
 
   pub point_none : (drive : Drive) (found : Vec Pointer Global) → found.items ≡ [] → PointReads [] drive drive (Ok found)
-  point_none drive found none = read_gives refl (λ t. (refl, (refl, record {
-    ascending = subst AreAscending (sym none) tt;
-    each = λ path key. (λ has. absurd (subst (λ (z : List Pointer). HasKey z path key) none has), λ has. absurd has.1);
-  })))
+  point_none drive found none = read_gives refl (λ t. (
+    refl,
+    (
+      refl,
+      record {
+        ascending = subst AreAscending (sym none) tt;
+        each = λ path key. (λ has. absurd (subst (λ (z : List Pointer). HasKey z path key) none has), λ has. absurd has.1);
+      },
+    ),
+  ))
 
 -- ---- the laws
 pub points_once : PointersHaveOneEnd

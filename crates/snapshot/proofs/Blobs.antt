@@ -134,9 +134,11 @@ module _ (tells : Bool) (repo : Names) (id : List ℕ) (old new : Drive) where
       small_is body gets =
           let reads = since (Ok (Some (Blob, body))) gets in
           read_gives reads.later (λ t.
-          let was = reads.told t in
-          (was.same, (
-            read_fault t None (Some (record { kind = Blob; body = body.items })) was.answer.0 was.answer.1,
-            sym was.answer.1,
-            short_body repo id body.items (present old) (sym was.answer.1) (sym (longs.told t).answer),
-          )))
+          let was = reads.told t in (
+            was.same,
+            (
+              read_fault t None (Some (record { kind = Blob; body = body.items })) was.answer.0 was.answer.1,
+              sym was.answer.1,
+              short_body repo id body.items (present old) (sym was.answer.1) (sym (longs.told t).answer),
+            ),
+          ))

@@ -12,7 +12,8 @@ use std::alloc::Global;
 use std::process::Abort;
 
 // `printf 'hello\n' | sha256sum`, in the key of such a content
-const KEY: &str = "SHA256E-s6--5891b5b522d5df086d0ff0b110fbd9d21bb4fc7163af34d08286a2e846f6be03.txt";
+const KEY: &str =
+    "SHA256E-s6--5891b5b522d5df086d0ff0b110fbd9d21bb4fc7163af34d08286a2e846f6be03.txt";
 
 const POINTER: &[u8] =
     b"/annex/objects/SHA256E-s6--5891b5b522d5df086d0ff0b110fbd9d21bb4fc7163af34d08286a2e846f6be03.txt\n";
