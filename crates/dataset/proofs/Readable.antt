@@ -1,6 +1,7 @@
 -- What a sound dataset has is read, but for what is past a limit.
-use Rattle.std.proofs.Common.{◌≡◌, inl, inr, ℕ, ◌+◌, Bool, true, false, cond, nat_lt, List, [], ◌∷◌, ◌++◌, length, Option, Some, None, refl, sym, ap, ◌∙◌, subst}
+use Rattle.std.proofs.Common.{◌≡◌, inl, inr, ℕ, ◌+◌, Bool, true, false, cond, nat_lt, List, [], ◌∷◌, ◌++◌, length, ◌≤◌, Option, Some, None, refl, sym, ap, ◌∙◌, subst}
 use Rattle.std.specs.Prelude.{IsSome, is_some, option_map}
+use borrow.Author.Tests.{ltb-true, ltb-false}
 use Rattle.places.specs.All.{Names, text_of, longest, Ground, file_at, stands}
 use Rattle.faults.specs.declared.faults.Fault.{Fault}
 use Rattle.faults.specs.declared.faults.Fault.TheVariants.{BadCommit, BadTree}
@@ -22,14 +23,21 @@ use Rattle.ref_store.specs.All.{head_fault, lead_fault, long_place, tip_fault}
 use Rattle.ref_store.specs.declared.heads.Head.{Head}
 use Rattle.ref_store.specs.declared.heads.Head.TheVariants.{Branch, Detached}
 use Rattle.ref_store.proofs.Leading.{same_branch}
-use Rattle.snapshot.specs.All.{Dir, Empty, Item, Sub, IsFlattenFault, IsReadFault, Stands, SubsStand}
-use Rattle.snapshot.specs.All.{dir_entry, entries_of, here, leaf_entry, long, many, root_id}
+use Rattle.object_store.proofs.Gets.{get_large}
+use Rattle.snapshot.specs.All.{Dir, Empty, Item, Sub, IsFlat, IsFlattenFault, IsReadFault, Stands, SubsStand}
+use Rattle.snapshot.specs.All.{annex_fault, dir_entry, entries_of, here, inside, leaf_entry, listed}
+use Rattle.snapshot.specs.All.{long, many, pointers_fault, root_id}
+use Rattle.snapshot.specs.declared.entries.Entry.{Entry}
+use Rattle.snapshot.specs.declared.entries.Leaf.{Leaf}
+use Rattle.snapshot.specs.declared.entries.Leaf.TheVariants.{Git, Link, Pin}
+use Rattle.snapshot.proofs.Annexing.{pointers_fault-append}
+use Rattle.snapshot.proofs.Blobs.{held_told}
 use Rattle.snapshot.specs.Flattens.{below}
 use Rattle.snapshot.proofs.Faultless.{EachSub-parts, cut_at}
-use Rattle.snapshot.proofs.Standing.{no_leaf_is_dir, tree_same}
-use Rattle.dataset.specs.Readable.{IsLimit, IsLimitAtMost, IsReadable, SoundIsReadable}
+use Rattle.snapshot.proofs.Standing.{no_leaf_is_dir, stands_once, tree_same}
+use Rattle.dataset.specs.Readable.{IsLimit, IsLimitAtMost, IsReadable, SoundIsReadable, WholeTellsPointers}
 use Rattle.dataset.specs.Sound.{IsSoundAt}
-use Rattle.dataset.specs.Whole.{IsWhole}
+use Rattle.dataset.specs.Whole.{EachLeaf, IsLeafHeld, IsWhole}
 use Rattle.dataset.proofs.Commits.{tree_full}
 
 of_limit : (o : Option Fault) (fault : Fault) → IsLimitAtMost o → o ≡ Some fault → IsLimit fault
@@ -163,6 +171,37 @@ module _ (repo : Names) (g : Ground) where
   flat_read id fault whole (inr (fields, there, read, fails)) =
       let full = tree_full repo g id fields there whole in
       dir_read 0 [] fields.tree.0 fault full.dir fails full.stands
+
+  -- ---- the blobs of a whole commit
+  told_fits : (id : List ℕ) → get_fault repo id g ≡ None → length (text_of repo) ≤ object_limit
+  told_fits id none = by (nat_lt object_limit (length (text_of repo))) refl
+    where
+      by : (b : Bool) → nat_lt object_limit (length (text_of repo)) ≡ b → length (text_of repo) ≤ object_limit
+      by true over = absurd (cc (sym (get_large repo id g (ltb-true object_limit (length (text_of repo)) over)) ∙ none))
+      by false fits = ltb-false object_limit (length (text_of repo)) fits
+
+  module _ (fits : length (text_of repo) ≤ object_limit) where
+    leaf_told : (leaf : Leaf) → IsLeafHeld repo g leaf → annex_fault repo leaf g ≡ None
+    leaf_told (Git id exec) held = held_told repo id.0 g fits held.0 held.1
+    leaf_told (Link id) held = refl
+    leaf_told (Pin id) held = refl
+
+    dir_told : (path : List ℕ) (dir : Dir) → EachLeaf (IsLeafHeld repo g) dir → pointers_fault repo (listed path dir) g ≡ None
+    dir_told path Empty leaves = refl
+    dir_told path (Item n l m) leaves = (λ i. or_next (leaf_told l leaves.0 i) (dir_told path m leaves.1 i))
+    dir_told path (Sub n s m) leaves =
+        pointers_fault-append repo g (listed (inside path n) s) (listed path m)
+        ∙ (λ i. or_next (dir_told (inside path n) s leaves.0 i) (dir_told path m leaves.1 i))
+
+  pointers_told : (commit : List ℕ) (list : List Entry) → IsWhole repo commit g → IsFlat repo commit g list → pointers_fault repo list g ≡ None
+  pointers_told commit list whole flat =
+      let full = tree_full repo g commit flat.fields flat.held whole in
+      let same : full.dir ≡ flat.tree.dir = stands_once repo g flat.fields.tree.0 full.dir flat.tree.dir full.stands flat.tree.stands in
+      ap (λ (z : List Entry). pointers_fault repo z g) flat.tree.same
+      ∙ dir_told (told_fits commit flat.whole) [] flat.tree.dir (subst (EachLeaf (IsLeafHeld repo g)) same full.leaves)
+
+pub whole_tells_pointers : WholeTellsPointers
+whole_tells_pointers repo g = pointers_told repo g
 
 -- ---- a sound dataset
 some_held : (o : Option Object) → IsSome o → (one : Object) × (o ≡ Some one)

@@ -9,6 +9,7 @@ pub use Rattle.dataset.specs.Leads.{branch_round, lead_round, lead_text}
 pub use Rattle.dataset.specs.Moments.{ActKeeps, ActsStaySound, BeginsSound, IsIntactDisk}
 pub use Rattle.dataset.specs.Moments.{IsLooseElsewhere, IsSettled, RestIsSettled, StaysSound}
 pub use Rattle.dataset.specs.Readable.{IsLimit, IsLimitAtMost, IsReadable, SoundIsReadable}
+pub use Rattle.dataset.specs.Readable.{WholeTellsPointers}
 pub use Rattle.dataset.specs.Refs.{IsDone, IsHeadSet, IsTipSet, SaveIsSound, SetHeadIsSound}
 pub use Rattle.dataset.specs.Refs.{SetTipIsSound, led_by, saves}
 pub use Rattle.dataset.specs.Rounds.{AllKeepSound, AreFree, AreUnwatched, CanPut, CanSet, HasSome}

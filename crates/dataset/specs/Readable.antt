@@ -7,7 +7,8 @@ use Rattle.git_objects.specs.All.{IsId}
 use Rattle.repository.specs.All.{branch_place, is_branch, repo_of}
 use Rattle.object_store.specs.All.{IsCommitFault, get_fault}
 use Rattle.ref_store.specs.All.{branch_fault, tip_fault}
-use Rattle.snapshot.specs.All.{IsFlattenFault}
+use Rattle.snapshot.specs.All.{IsFlat, IsFlattenFault, pointers_fault}
+use Rattle.snapshot.specs.declared.entries.Entry.{Entry}
 use Rattle.dataset.specs.Whole.{IsWhole}
 use Rattle.dataset.specs.Sound.{IsSoundAt}
 
@@ -38,3 +39,10 @@ pub record IsReadable (root : Names) (g : Ground) : Type 0 where
 -- of form.
 abbrev pub SoundIsReadable : Type 0
 SoundIsReadable = (root : Names) (g : Ground) → IsSoundAt root g → IsReadable root g
+
+-- The pointers in the snapshot of a whole commit are found: no blob of a file is missing or
+-- damaged, and the repository's place isn't too long where the snapshot is read.
+abbrev pub WholeTellsPointers : Type 0
+WholeTellsPointers =
+    (repo : Names) (g : Ground) (commit : List ℕ) (list : List Entry)
+    → IsWhole repo commit g → IsFlat repo commit g list → pointers_fault repo list g ≡ None

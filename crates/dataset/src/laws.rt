@@ -5,7 +5,7 @@ ghost use Rattle.dataset.specs.Laws.{SameKeeps, RoundsKeep, MoreRounds};
 ghost use Rattle.dataset.specs.Births.{BirthKeeps};
 ghost use Rattle.dataset.specs.Leads.{BranchKeeps, LeadKeeps};
 ghost use Rattle.dataset.specs.Moments.{RestIsSettled, ActsStaySound};
-ghost use Rattle.dataset.specs.Readable.{SoundIsReadable};
+ghost use Rattle.dataset.specs.Readable.{SoundIsReadable, WholeTellsPointers};
 ghost use Rattle.dataset.specs.Steps.{BindKeeps, PutObjectsKeep, PutObjectsLeave, PutsKeep, PutsLeave, StillStepsKeep};
 ghost use Rattle.dataset.specs.Refs.{SaveIsSound, SetHeadIsSound, SetTipIsSound};
 ghost use Rattle.dataset.specs.Saves.{PutAreHeld, NoFaultIsFree, NewCommitIsWhole, SaveKeeps, FlatSaveIsSave};
@@ -38,6 +38,11 @@ pub fn less_tmp_is_sound()
 /// What a sound dataset has is read, but for what is past a limit.
 pub fn sound_is_readable()
     ensures { SoundIsReadable }
+{}
+
+/// The pointers in the snapshot of a whole commit are found.
+pub fn whole_tells_pointers()
+    ensures { WholeTellsPointers }
 {}
 
 /// The empty ground is sound.

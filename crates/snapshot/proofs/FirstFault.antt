@@ -1,15 +1,14 @@
 -- A reading meets one fault at most.
-use Rattle.std.proofs.Common.{◌≡◌, ℕ, ◌+◌, ◌≤◌, ◌<◌, true, inl, inr, List, [], ◌∷◌, ◌++◌, length, Option, Some, None, refl, sym, ap, subst, ◌∙◌, arith}
+use Rattle.std.proofs.Common.{◌≡◌, ℕ, ◌+◌, ◌≤◌, ◌<◌, inl, inr, List, [], ◌∷◌, ◌++◌, length, Some, None, refl, sym, ap, subst, ◌∙◌, arith}
 use Rattle.std.specs.Prelude.{◌⊎◌}
 use Rattle.places.specs.All.{Names, longest, Ground}
 use Rattle.faults.specs.declared.faults.Fault.{Fault}
 use Rattle.faults.specs.declared.faults.Fault.TheVariants.{BadTree}
-use Rattle.git_objects.specs.All.{IsBadAt, is_dir, Object}
+use Rattle.git_objects.specs.All.{IsBadAt, Object}
 use Rattle.git_objects.specs.declared.entries.TreeEntry.{TreeEntry}
-use Rattle.git_objects.specs.declared.objects.ObjKind.{ObjKind}
 use Rattle.git_objects.specs.declared.objects.ObjKind.TheVariants.{Tree as TreeKind}
 use Rattle.git_objects.proofs.BadPlaces.{tree_place}
-use Rattle.repository.specs.All.{held_at, item_limit}
+use Rattle.repository.specs.All.{item_limit}
 use Rattle.object_store.specs.All.{get_fault, kind_fault, IsTreeAt, IsTreeFault, IsBadTreeHeld}
 use Rattle.snapshot.specs.Dirs.{Dir, entries_of, root_id, inside, item_count, AreShort}
 use Rattle.snapshot.specs.Stands.{SubsStand}

@@ -1,4 +1,7 @@
+pub mod Annexing
 pub mod Apart
+pub mod Ascending
+pub mod Blobs
 pub mod Descent
 pub mod Faultless
 pub mod FirstFault
@@ -10,6 +13,7 @@ pub mod Once
 pub mod Order
 pub mod Ordered
 pub mod Paths
+pub mod Small
 pub mod Sorted
 pub mod Standing
 pub mod Told

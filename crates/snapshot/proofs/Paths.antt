@@ -45,13 +45,13 @@ valid_paths (Sub n s m) valid =
     (valid_paths m (first.tree, valid.1.2))
 
 -- ---- none above another
-each_at : (P : Entry → Type 0) (list : List Entry) (e : Entry) → Each P list → Has list e → P e
+pub each_at : (P : Entry → Type 0) (list : List Entry) (e : Entry) → Each P list → Has list e → P e
 each_at P [] e h k = absurd k
 each_at P (x ∷ list) e h (inl same) = subst P same h.0
 each_at P (x ∷ list) e h (inr k) = each_at P list e h.1 k
 
 -- in one part of a list, or in the other
-has_split : (xs ys : List Entry) (e : Entry) → Has (xs ++ ys) e → Has xs e ⊎ Has ys e
+pub has_split : (xs ys : List Entry) (e : Entry) → Has (xs ++ ys) e → Has xs e ⊎ Has ys e
 has_split [] ys e h = inr h
 has_split (x ∷ xs) ys e (inl h) = inl (inl h)
 has_split (x ∷ xs) ys e (inr h) = more (has_split xs ys e h)

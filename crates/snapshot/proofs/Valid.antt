@@ -111,7 +111,7 @@ unfolding is_entry
 name_of_dir n id h = h
 
 -- ---- members of a list
-has_front : (xs ys : List Entry) (e : Entry) → Has xs e → Has (xs ++ ys) e
+pub has_front : (xs ys : List Entry) (e : Entry) → Has xs e → Has (xs ++ ys) e
 has_front [] ys e h = absurd h
 has_front (x ∷ xs) ys e (inl h) = inl h
 has_front (x ∷ xs) ys e (inr h) = inr (has_front xs ys e h)

@@ -5,7 +5,7 @@ use Rattle.std.specs.List.{All, list_any}
 use Rattle.places.specs.All.{slash}
 use Rattle.faults.specs.declared.faults.Fault.TheVariants.{PathClash}
 use Rattle.faults.specs.declared.faults.Trouble.{Trouble}
-use Rattle.faults.specs.declared.faults.Trouble.TheVariants.{Refused, Device, NoMemory}
+use Rattle.faults.specs.declared.faults.Trouble.TheVariants.{Refused, NoMemory}
 use Rattle.git_objects.specs.All.{oid, tree_text, is_tree, IsEntryStored}
 use Rattle.git_objects.specs.declared.entries.TreeEntry.{TreeEntry}
 use Rattle.git_objects.specs.declared.objects.ObjKind.TheVariants.{Tree as TreeKind}

@@ -1,6 +1,7 @@
 -- What a snapshot, its trees and the objects that are held have to do with one another.
-use Rattle.std.specs.Prelude.{◌≡◌, ◌⊎◌, ◌↔◌, ◌≤◌, ◌+◌, ℕ, List, [], ◌∷◌, length, Some}
+use Rattle.std.specs.Prelude.{◌≡◌, ◌⊎◌, ◌↔◌, ◌≤◌, ◌+◌, ℕ, List, [], ◌∷◌, length, Some, None}
 use Rattle.places.specs.All.{Names, text_of, longest, Ground}
+use Rattle.annex_keys.specs.All.{PlainKey}
 use Rattle.faults.specs.declared.faults.Fault.{Fault}
 use Rattle.git_objects.specs.All.{Fields, oid}
 use Rattle.git_objects.specs.declared.entries.TreeEntry.{TreeEntry}
@@ -10,10 +11,12 @@ use Rattle.object_store.specs.declared.objects.NewObject.{NewObject}
 use Rattle.snapshot.specs.Leaves.{leaf_entry, dir_entry}
 use Rattle.snapshot.specs.Dirs.{Dir, root_id, tree_objects, paths_of, leaf_in, IsDir, IsDense}
 use Rattle.snapshot.specs.Stands.{Stands}
-use Rattle.snapshot.specs.Order.{IsPathList}
+use Rattle.snapshot.specs.Order.{Has, IsPathList, IsSorted, LacksPath}
 use Rattle.snapshot.specs.Flattens.{IsFlat, IsFlattenFault}
+use Rattle.snapshot.specs.Pointers.{ArePointed, ArePointers, IsAnnexed, key_at, pointers_fault}
 use Rattle.snapshot.specs.declared.entries.Leaf.{Leaf}
 use Rattle.snapshot.specs.declared.entries.Entry.{Entry}
+use Rattle.snapshot.specs.declared.pointing.Pointer.{Pointer}
 
 -- Each of the objects is held.
 abbrev pub AreHeld : Names → Ground → List NewObject → Type 0
@@ -116,3 +119,22 @@ abbrev pub LeafInStanding : Type 0
 LeafInStanding =
     (repo : Names) (g : Ground) (id : List ℕ) (dir : Dir) (path : Names) (leaf : Leaf)
     → Stands repo id g dir → (leaf_in dir path ≡ Some leaf) ↔ IsLeafAt repo g id path leaf
+
+-- The search for pointers has one end: one list of pointers, or one fault.
+pub record PointersHaveOneEnd : Type 0 where
+  pub list : (repo : Names) (g : Ground) (list : List Entry) (one two : List Pointer)
+      → ArePointers repo g list one → ArePointers repo g list two → one ≡ two
+  pub not_both : (repo : Names) (g : Ground) (list : List Entry) (pointers : List Pointer)
+      (fault : Fault)
+      → ArePointed repo list g pointers → pointers_fault repo list g ≡ Some fault → ⊥
+
+-- Of a list whose paths ascend, the key at an entry's path is the one with which its leaf is
+-- annexed, and no key is at another path.
+pub record KeysAreOfLeaves : Type 0 where
+  pub own : (repo : Names) (g : Ground) (list : List Entry) (pointers : List Pointer) (e : Entry)
+      (key : PlainKey)
+      → IsSorted list → ArePointers repo g list pointers → Has list e
+      → (key_at e.path pointers ≡ Some key) ↔ IsAnnexed repo g e.leaf key
+  pub other : (repo : Names) (g : Ground) (list : List Entry) (pointers : List Pointer)
+      (path : List ℕ)
+      → ArePointers repo g list pointers → LacksPath list path → key_at path pointers ≡ None

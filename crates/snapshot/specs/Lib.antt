@@ -5,5 +5,6 @@ pub mod Flattens
 pub mod Laws
 pub mod Leaves
 pub mod Order
+pub mod Pointers
 pub mod Stands
 pub mod Walks

@@ -1,5 +1,6 @@
-// What flattening and building have to do with one another: each function is a law, and does nothing.
+// What flattening, building and pointers have to do with one another: each function is a law, and does nothing.
 ghost use Rattle.snapshot.specs.Laws.{FlattenOfBuild, BuildOfFlatten, LeafInStanding, ArePathLists, HasOneEnd};
+ghost use Rattle.snapshot.specs.Laws.{KeysAreOfLeaves, PointersHaveOneEnd};
 
 /// The snapshot of a commit of a built tree is the one that the tree was built of.
 pub fn flatten_of_build()
@@ -24,4 +25,14 @@ pub fn path_lists()
 /// The reading of a commit has one end: one list of paths, or one fault.
 pub fn readings_have_one_end()
     ensures { HasOneEnd }
+{}
+
+/// The search for pointers has one end: one list of pointers, or one fault.
+pub fn pointers_have_one_end()
+    ensures { PointersHaveOneEnd }
+{}
+
+/// The key at a path of the pointers is the one with which the leaf there is annexed.
+pub fn keys_are_of_leaves()
+    ensures { KeysAreOfLeaves }
 {}

@@ -2,7 +2,7 @@ use Rattle.std.proofs.Common.{◌≡◌, ◌<◌, ◌++◌, ◌∷◌, ◌∙◌
 use Rattle.git_objects.specs.declared.entries.TreeEntry.{TreeEntry}
 use Rattle.git_objects.specs.declared.ids.Id.{Id}
 use Rattle.snapshot.specs.Leaves.{leaf_entry, dir_entry}
-use Rattle.snapshot.specs.Builds.{all_seen, weight, IsGroup, BuildsNext, BuildsDir, BuildsFront}
+use Rattle.snapshot.specs.Builds.{all_seen, weight, BuildsNext, BuildsDir, BuildsFront}
 use Rattle.snapshot.specs.Builds.{PutsTree}
 use Rattle.snapshot.specs.Order.{IsPathList}
 use Rattle.snapshot.specs.declared.building.Rest.{Rest}
