@@ -22,11 +22,11 @@ abbrev pub IsOldContent : Option PlainKey → List ℕ → Type 0
 IsOldContent None bytes = ⊥
 IsOldContent (Some key) bytes = Matches key bytes
 
--- The bytes point to a content.
+-- The bytes point to a content, to which this is the pointer with its newline.
 pub record Points (bytes text : List ℕ) : Type 0 where
   pub key : PlainKey
   pub pointer : IsPointer bytes key
-  pub text : text ≡ pointer_text key
+  pub printed : text ≡ pointer_text key
 
 -- Whether a file with new bytes is annexed: as its old leaf is, or else by its path.
 abbrev pub is_annexed : Option Id → Option PlainKey → List ℕ → Bool → Bool
