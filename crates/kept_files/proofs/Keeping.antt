@@ -1,12 +1,12 @@
 -- How a file is kept, rule by rule, and that it is kept in one way.
-use Rattle.std.proofs.Common.{◌≡◌, ◌↔◌, ◌⊎◌, inl, inr, ℕ, Bool, true, false, List, refl, sym, ap, ◌∙◌, subst}
+use Rattle.std.proofs.Common.{◌≡◌, ◌↔◌, inl, inr, ℕ, Bool, true, false, List, refl, sym, ap, ◌∙◌, subst}
 use Rattle.std.specs.Prelude.{IfOk, IsTrue, MatchOption, Option, Some, None, Result, Ok, Err}
 use Rattle.annex_keys.specs.All.{IsPointer, Matches, PlainKey, key_of, pointer_text}
 use Rattle.annex_keys.proofs.Readings.{one_reading}
 use Rattle.git_objects.specs.declared.ids.Id.{Id}
 use Rattle.kept_files.specs.declared.kept.Kept.{Kept}
 use Rattle.kept_files.specs.declared.kept.Kept.TheVariants.{Same, InGit, Pointer, Content}
-use Rattle.kept_files.specs.Kept.{IsKept, IsNew, IsOldContent, Points, Stays, is_annexed}
+use Rattle.kept_files.specs.Kept.{IsKept, IsOldContent, Points, Stays}
 use Rattle.kept_files.specs.Laws.{KeptIsOne}
 use Rattle.kept_files.specs.Paths.{last_name}
 

@@ -1,5 +1,5 @@
--- How a working file is kept. Its old leaf is given by the id of its blob, where it is a file's, and
--- by its key, where it is annexed.
+-- How a working file is kept. Its old leaf is given by the id of its blob where it is a file's, and
+-- by its key too where it is annexed.
 use Rattle.std.specs.Prelude.{◌≡◌, ◌↔◌, ◌⊎◌, ℕ, Bool, true, false, not, IsTrue, List, Option, Some}
 use Rattle.std.specs.Prelude.{None, option_map}
 use Rattle.annex_keys.specs.All.{IsPointer, Matches, PlainKey, key_of, pointer_text}
@@ -10,8 +10,8 @@ use Rattle.kept_files.specs.declared.kept.Kept.{Kept}
 use Rattle.kept_files.specs.declared.kept.Kept.TheVariants.{Same, InGit, Pointer, Content}
 use Rattle.kept_files.specs.Paths.{goes_to_git, last_name}
 
--- The old leaf stays: it is annexed, and the bytes are its key's pointer or its key's content; or it
--- is kept in git, and has the blob of the bytes.
+-- The old leaf stays: it is annexed, and the bytes are its key's pointer or its key's content; or
+-- it is kept in git, and has the blob of the bytes.
 abbrev pub Stays : Option Id → Option PlainKey → List ℕ → Type 0
 Stays blob (Some key) bytes = IsPointer bytes key ⊎ Matches key bytes
 Stays (Some id) None bytes = id.0 ≡ oid Blob bytes
