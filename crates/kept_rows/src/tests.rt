@@ -3,6 +3,7 @@
 use annex_keys::{Key, from_text, key_of, to_text};
 use git_objects::{Id, blob_id};
 use kept_files::{Kept, how_kept, size_limit};
+use std::process::Abort;
 use std::test::Fail;
 
 const HELLO: &str =
@@ -28,7 +29,7 @@ const LINE: &str =
 const OTHER: &str =
     "/annex/objects/SHA256E-s6--622cb3371c1a08096eaac564fb59acccda1fcdbe13a9dd10b486e6463c8c2525.txt\n";
 
-// How a file is kept, in words; a content with its pointer and without its key says so.
+// How a file is kept, in words: a pointer by its text, and a content that has its pointer by its key.
 fn told(rt: &HostRuntime, kept: &Kept) -> Result<String, Fail> {
     match kept {
         Kept::Same { is_content: true } => Ok(String::from_str(rt.alloc(), "same content")?),
@@ -39,7 +40,9 @@ fn told(rt: &HostRuntime, kept: &Kept) -> Result<String, Fail> {
             let name = to_text(rt.alloc(), key)?;
             let name = name.as_str();
             let pointer = format!(in rt.alloc(); "/annex/objects/{name}\n")?;
-            assert_eq!(rt; text.as_str(), pointer.as_str());
+            if text.as_str() != pointer.as_str() {
+                return Ok(String::from_str(rt.alloc(), "another pointer")?);
+            }
             Ok(String::from_str(rt.alloc(), name)?)
         }
     }
@@ -108,7 +111,7 @@ fn pointers(rt: HostRuntime) -> Result<(), Fail> {
             );
         }
     }
-    for end in ["\n\n", "x", ".a.b\n"] {
+    for end in ["\n\n", "\nx", "xy", " ", ".a.b\n"] {
         let text = format!(in rt.alloc(); "{LINE}{end}")?;
         assert_eq!(&rt;
             new_file(&rt, ".gitx", text.as_str(), false)?.as_str(),
@@ -200,22 +203,21 @@ fn contents_that_are_pointers(rt: HostRuntime) -> Result<(), Fail> {
     Ok(())
 }
 
-// The digits of the new leaf's id, and how many bytes its new blob has.
-fn blob_is(rt: &HostRuntime, kept: &Kept, bytes: &str, size: usize, hex: &str) -> Result<(), Fail> {
+// Tests how many bytes a file's new blob has, and the id of its new leaf.
+fn blob_is(rt: &impl Abort, kept: &Kept, bytes: &str, size: usize, hex: &str) {
     let body = kept.new_blob(bytes.as_bytes()).unwrap_or(b"");
     assert_eq!(rt; body.len(), size);
     let id = kept.leaf_id(None, bytes.as_bytes()).unwrap_or(Id([0; 20]));
     assert_eq!(rt; id.to_hex().as_slice(), hex.as_bytes());
-    Ok(())
 }
 
 #[test]
 fn blobs(rt: HostRuntime) -> Result<(), Fail> {
     let pointer = "39b3ecb685e7d01850073c97ecc20aeeb699a30c";
     let content = how_kept(rt.alloc(), None, None, "hello.txt", b"hello\n", false)?;
-    blob_is(&rt, &content, "hello\n", 96, pointer)?;
+    blob_is(&rt, &content, "hello\n", 96, pointer);
     let line = how_kept(rt.alloc(), None, None, "hello.txt", LINE.as_bytes(), false)?;
-    blob_is(&rt, &line, LINE, 96, pointer)?;
+    blob_is(&rt, &line, LINE, 96, pointer);
     let plain = how_kept(rt.alloc(), None, None, ".gitx", b"hello\n", false)?;
     blob_is(
         &rt,
@@ -223,7 +225,7 @@ fn blobs(rt: HostRuntime) -> Result<(), Fail> {
         "hello\n",
         6,
         "ce013625030ba8dba906f756967f9e9ca394464a",
-    )?;
+    );
     let old = blob_id(b"hello\n");
     let same = how_kept(rt.alloc(), Some(old), None, "hello.txt", b"hello\n", false)?;
     assert!(&rt; same.new_blob(b"hello\n").is_none());
