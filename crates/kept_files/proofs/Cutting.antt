@@ -39,5 +39,5 @@ pub last_cut : (path front back : List ℕ) → SplitsAroundMatch (RFindsChar sl
 last_cut path front back h =
     h.4
     ∙ sym (
-        ap last_of (cut path h.0 h.1 h.2.1 ∙ ap (λ (z : Names). pieces (take h.0 path) ++ z) (alone (drop h.1 path) h.2.0))
-        ∙ last_of-append (pieces (take h.0 path)) (drop h.1 path))
+    ap last_of (cut path h.0 h.1 h.2.1 ∙ ap (λ (z : Names). pieces (take h.0 path) ++ z) (alone (drop h.1 path) h.2.0))
+    ∙ last_of-append (pieces (take h.0 path)) (drop h.1 path))

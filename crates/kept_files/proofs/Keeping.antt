@@ -50,9 +50,13 @@ pub matches_by_own : (key own : PlainKey) (bytes name : List ℕ) → own ≡ ke
 unfolding key_of
 matches_by_own key own bytes name e h = record { size = h.0 ∙ ap (λ (k : PlainKey). k.size) e; digest = h.1 ∙ ap (λ (k : PlainKey). k.digest) e }
 
-pub own_by_matches : (key own : PlainKey) (bytes name : List ℕ) → own ≡ key_of bytes name → Matches key bytes → (key.size ≡ own.size) × (key.digest ≡ own.digest)
+own_by_matches : (key own : PlainKey) (bytes name : List ℕ) → own ≡ key_of bytes name → Matches key bytes → (key.size ≡ own.size) × (key.digest ≡ own.digest)
 unfolding key_of
 own_by_matches key own bytes name e h = (h.size ∙ sym (ap (λ (k : PlainKey). k.size) e), h.digest ∙ sym (ap (λ (k : PlainKey). k.digest) e))
+
+-- keys of two contents
+pub no_content : (same : Bool) (key own : PlainKey) (bytes name : List ℕ) → own ≡ key_of bytes name → (IsTrue same ↔ ((key.size ≡ own.size) × (key.digest ≡ own.digest))) → same ≡ false → Matches key bytes → ⊥
+no_content same key own bytes name e test off h = absurd (cc (test.1 (own_by_matches key own bytes name e h), off))
 
 -- the bytes are the old content
 pub still_content : (blob : Option Id) (key : PlainKey) (path bytes : List ℕ) (to_git : Bool) → Matches key bytes → IsKept blob (Some key) path to_git bytes (Same true)
