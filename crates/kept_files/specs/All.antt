@@ -3,4 +3,4 @@ pub use Rattle.kept_files.specs.Kept.{IsKept, IsNew, IsOldContent, Points, Stays
 pub use Rattle.kept_files.specs.Kept.{leaf_id, new_blob}
 pub use Rattle.kept_files.specs.Laws.{KeptIsOne}
 pub use Rattle.kept_files.specs.Limits.{annexed_file_limit, git_file_limit, size_limit}
-pub use Rattle.kept_files.specs.Paths.{first_name, goes_to_git, last_name}
+pub use Rattle.kept_files.specs.Paths.{first_name, first_of, goes_to_git, last_name, last_of}
