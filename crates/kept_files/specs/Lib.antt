@@ -1,0 +1,5 @@
+pub mod All
+pub mod Kept
+pub mod Laws
+pub mod Limits
+pub mod Paths
