@@ -1,0 +1,30 @@
+// Reading an index.
+ghost use Rattle.std.specs.Prelude.{◌≡◌};
+ghost use Rattle.index_file.specs.Reads.{DecodeEnds};
+
+use crate::entries::IndexEntry;
+use crate::errors::{IndexErr, Stop};
+use crate::reading::read_body;
+use sha1::Sha1;
+use std::alloc::Global;
+
+/// The list whose index these bytes are. Numbers that say nothing of an entry, the highest bit of its
+/// flags and extensions that begin with a capital letter are passed over.
+pub fn decode(alloc: Global, bytes: &[u8]) -> Result<Vec<IndexEntry>, IndexErr>
+    ensures { DecodeEnds bytes.now result }
+{
+    let (body, sum) = bytes.split_at(bytes.len().saturating_sub(20));
+    let list = match read_body(alloc, body) {
+        Ok(list) => list,
+        Err(Stop::Left(left)) => {
+            let at = (body.len() - left) as u64;
+            return Err(IndexErr::BadIndex { at });
+        }
+        Err(Stop::NoMemory) => return Err(IndexErr::NoMemory),
+    };
+    let at = body.len() as u64;
+    if sum != Sha1::digest(body).as_slice() {
+        return Err(IndexErr::BadIndex { at });
+    }
+    Ok(list)
+}
