@@ -1,5 +1,10 @@
 -- Bytes have one reading, or one place where they stop.
 use Rattle.std.proofs.Common.{◌≡◌, ◌⊎◌, inl, inr, ℕ, ◌+◌, ◌<◌, List, [], ◌∷◌, ◌++◌, length, refl, sym, ap, subst, ◌∙◌, arith, length-append}
+use Rattle.std.specs.Prelude.{MatchResult, Result, Ok, Err, Vec}
+use Rattle.index_file.specs.declared.errors.IndexErr.{IndexErr}
+use Rattle.index_file.specs.declared.errors.IndexErr.TheVariants.{BadIndex, NoMemory}
+use Rattle.index_file.specs.Reads.{RefusesIndex}
+use Rattle.std.specs.declared.alloc.Global.{Global}
 use Rattle.sha1.specs.Sha1.{sha1}
 use Rattle.index_file.specs.declared.entries.IndexEntry.{IndexEntry}
 use Rattle.index_file.specs.Entries.{last_path}
@@ -9,7 +14,7 @@ use Rattle.index_file.specs.Stops.{StopsAt, StopsBehindEntries, StopsInBody, Sto
 use Rattle.index_file.specs.Things.{AreThings, piled}
 use Rattle.index_file.proofs.EntryTexts.{entry_once, no_entry_stop, one_entry_stop}
 use Rattle.index_file.proofs.Pieces.{extension_once, head_once, no_extension_in_nothing}
-use Rattle.index_file.proofs.Runs.{AreOne, GoesOn, IsOnce, apart, no_stop, one_stop}
+use Rattle.index_file.proofs.Runs.{AreOne, GoesOn, IsOnce, apart, no_stop, one_stop, piled_push, push}
 
 abbrev Entry : List IndexEntry → IndexEntry → List ℕ → List ℕ → Type 0
 Entry before entry = IsEntryText (last_path before) entry
@@ -27,6 +32,14 @@ longer : {V : Type 0} (vs : List V) (v : V) (more ws : List V) → ws ≡ vs ++ 
 longer vs v more ws e = omega (arith, ap length e, length-append vs (v ∷ more))
 
 -- ---- entries
+
+-- one more entry
+pub pushed : (list : List IndexEntry) (e : IndexEntry) (last text rest after : List ℕ) → AreEntries list text rest → last ≡ last_path (piled [] list) → IsEntryText last e rest after
+    → AreEntries (list ++ e ∷ []) text after × (e.path ≡ last_path (piled [] (list ++ e ∷ [])))
+pushed list e last text rest after h same k = (
+  push Entry [] list e text rest after h (subst (λ (z : List ℕ). IsEntryText z e rest after) same k),
+  sym (ap last_path (piled_push [] list e)),
+)
 
 -- as many entries as are counted are one list
 pub counted_once : (one two : List IndexEntry) (text x y : List ℕ) → AreEntries one text x → AreEntries two text y → length one ≡ length two → AreOne one x two y
@@ -113,3 +126,10 @@ place_once bytes m n (within left a p) (within right b q) =
 place_once bytes m n (within left a p) (in_sum list b s q) = absurd (no_body_stop list (body_of bytes) left b a)
 place_once bytes m n (in_sum list a s p) (within left b q) = absurd (no_body_stop list (body_of bytes) left a b)
 place_once bytes m n (in_sum one a s p) (in_sum two b t q) = p ∙ sym q
+
+-- what is read of a list's own index
+pub read_again : (bytes : List ℕ) (list : List IndexEntry) (r : Result (Vec IndexEntry Global) IndexErr) → IsIndexText bytes list → MatchResult r (λ read. IsIndexText bytes read.items) (RefusesIndex bytes)
+    → MatchResult r (λ read. read.items ≡ list) (λ e. e ≡ NoMemory)
+read_again bytes list (Ok read) h k = list_once bytes read.items list k h
+read_again bytes list (Err (BadIndex at)) h k = absurd (no_list bytes at list k h)
+read_again bytes list (Err NoMemory) h k = refl

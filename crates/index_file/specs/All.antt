@@ -9,7 +9,7 @@ pub use Rattle.index_file.specs.Laws.{HaveOneReading}
 pub use Rattle.index_file.specs.Pieces.{BeginsWithNul, IsCutPath, IsEntryText, IsExtension, IsFlags}
 pub use Rattle.index_file.specs.Pieces.{IsHead, IsIdText, IsModeText, IsPadding, IsPassed}
 pub use Rattle.index_file.specs.Pieces.{IsPathText, head_text}
-pub use Rattle.index_file.specs.Reads.{DecodeEnds, RefusesIndex}
+pub use Rattle.index_file.specs.Reads.{RefusesIndex}
 pub use Rattle.index_file.specs.Stops.{StopsAt, StopsBehindEntries, StopsInBody, StopsInEntries}
 pub use Rattle.index_file.specs.Stops.{StopsInEntry, StopsInExtensions, StopsInPadding, StopsInPath}
 pub use Rattle.index_file.specs.Things.{AreThings, Lacking, StopsIn, piled}

@@ -1,6 +1,7 @@
 // Reading an index.
-ghost use Rattle.std.specs.Prelude.{◌≡◌};
-ghost use Rattle.index_file.specs.Reads.{DecodeEnds};
+ghost use Rattle.std.specs.Prelude.{MatchResult};
+ghost use Rattle.index_file.specs.Index.{IsIndexText};
+ghost use Rattle.index_file.specs.Reads.{RefusesIndex};
 
 use crate::entries::IndexEntry;
 use crate::errors::{IndexErr, Stop};
@@ -11,7 +12,8 @@ use std::alloc::Global;
 /// The list whose index these bytes are. Numbers that say nothing of an entry, the highest bit of its
 /// flags and extensions that begin with a capital letter are passed over.
 pub fn decode(alloc: Global, bytes: &[u8]) -> Result<Vec<IndexEntry>, IndexErr>
-    ensures { DecodeEnds bytes.now result }
+    ensures { MatchResult result (λ list. IsIndexText bytes.now list.items)
+        (RefusesIndex bytes.now) }
 {
     let (body, sum) = bytes.split_at(bytes.len().saturating_sub(20));
     let list = match read_body(alloc, body) {

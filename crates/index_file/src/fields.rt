@@ -2,6 +2,8 @@
 // with what follows it.
 ghost use Rattle.std.specs.Prelude.{◌≡◌, ◌+◌, ◌*◌, ◌<◌, ◌≤◌, ◌^◌, ◌++◌, ℕ, List, length};
 ghost use Rattle.std.specs.Prelude.{MatchOption};
+ghost use Rattle.std.specs.Char.{is_ascii_alphabetic};
+ghost use Rattle.std.specs.List.{list_all};
 ghost use Rattle.index_file.specs.Entries.{four, number_of};
 ghost use Rattle.index_file.specs.Pieces.{IsExtension, IsFlags, IsHead, IsIdText, IsModeText};
 ghost use Rattle.index_file.specs.Pieces.{IsPassed};
@@ -24,7 +26,7 @@ pub(crate) fn pass(text: &[u8], size: usize) -> Option<&[u8]>
 }
 
 // Behind another text.
-fn without_front<'a>(text: &'a [u8], front: &[u8]) -> Option<&'a [u8]>
+pub(crate) fn without_front<'a>(text: &'a [u8], front: &[u8]) -> Option<&'a [u8]>
     ensures { MatchOption result ((rest : List ℕ) → text.now ≡ front.now ++ rest → ⊥)
         (λ rest. text.now ≡ front.now ++ rest.now) }
 {
@@ -102,11 +104,21 @@ pub(crate) fn read_head(text: &[u8]) -> Option<(usize, &[u8])>
     Some((count as usize, rest))
 }
 
+fn are_letters(name: &[u8]) -> bool
+    ensures { result ≡ list_all is_ascii_alphabetic name.now }
+{
+    name.iter().all(|letter| letter.is_ascii_alphabetic())
+}
+
 // Whether an extension of this name is passed over.
-fn is_passed_name(name: &[u8; 4]) -> bool
+fn is_passed_name(name: &[u8]) -> bool
+    requires { length name.now ≡ 4 }
     ensures { result ≡ is_passed_name name.now }
 {
-    name[0].is_ascii_uppercase() && name.iter().all(|letter| letter.is_ascii_alphabetic())
+    if !name[0].is_ascii_uppercase() {
+        return false;
+    }
+    are_letters(name)
 }
 
 // Behind an extension.
@@ -114,11 +126,20 @@ pub(crate) fn after_extension(text: &[u8]) -> Option<&[u8]>
     ensures { MatchOption result (Lacking IsExtension text.now)
         (λ rest. HasExtension text.now rest.now) }
 {
-    let (name, rest) = text.split_first_chunk::<4>()?;
+    if text.len() < 4 {
+        return None;
+    }
+    let (name, rest) = text.split_at(4);
     if !is_passed_name(name) {
         return None;
     }
-    let (size, rest) = read_number(rest)?;
-    let (_, after) = rest.split_at_checked(size as usize)?;
+    let Some((size, behind)) = read_number(rest) else {
+        return None;
+    };
+    let size = size as usize;
+    if behind.len() < size {
+        return None;
+    }
+    let (_, after) = behind.split_at(size);
     Some(after)
 }

@@ -1,12 +1,14 @@
 // Paths, and the padding behind them.
-ghost use Rattle.std.specs.Prelude.{◌≡◌, ◌<◌, ◌≤◌, ◌++◌, MatchOption, MatchResult};
+ghost use Rattle.std.specs.Prelude.{◌≡◌, ◌<◌, ◌≤◌, ◌==◌, ◌++◌, MatchOption};
+ghost use Rattle.std.specs.Prelude.{MatchResult};
+ghost use Rattle.std.specs.List.{position};
 ghost use Rattle.index_file.specs.Entries.{longest_said, padding};
 ghost use Rattle.index_file.specs.Pieces.{IsCutPath, IsPathText};
 ghost use Rattle.index_file.specs.Steps.{IsPadded, NoPadding};
 ghost use Rattle.index_file.specs.Stops.{StopsInPath};
 ghost use Rattle.index_file.specs.Things.{Lacking};
 
-use crate::fields::LONGEST_SAID;
+use crate::fields::{LONGEST_SAID, without_front};
 
 // The padding behind a path of this length.
 pub(crate) fn padding(size: usize) -> &'static [u8]
@@ -30,12 +32,20 @@ fn cut_short(text: &[u8], size: usize) -> Option<(&[u8], &[u8])>
     Some((path, rest))
 }
 
+fn first_nul(text: &[u8]) -> Option<usize>
+    ensures { result ≡ position (λ b. b == 0) text.now }
+{
+    text.iter().position(|byte| *byte == 0)
+}
+
 // A path for whose length the flags have no room: it goes up to the first NUL.
 fn cut_long(text: &[u8]) -> Option<(&[u8], &[u8])>
     ensures { MatchOption result (Lacking (IsCutPath longest_said) text.now)
         (λ parts. IsCutPath longest_said parts.0.now text.now parts.1.now) }
 {
-    let size = text.iter().position(|byte| *byte == 0)?;
+    let Some(size) = first_nul(text) else {
+        return None;
+    };
     if size < LONGEST_SAID {
         return None;
     }
@@ -74,7 +84,7 @@ fn after_padding(text: &[u8], size: usize) -> Option<&[u8]>
     ensures { MatchOption result (NoPadding size text.now)
         (λ rest. text.now ≡ padding size ++ rest.now) }
 {
-    text.strip_prefix(padding(size))
+    without_front(text, padding(size))
 }
 
 // A path and its padding, or how many bytes are left where they stop.
