@@ -37,7 +37,7 @@ id_read text rest id is_id is_rest size = record { whole = front_size 20 text id
 
 front_fits : (size : ℕ) (text front : List ℕ) → front ≡ take size text → size ≤ length text → ((i : ℕ) → get_or text i 0 < 256) → (i : ℕ) → get_or front i 0 < 256
 front_fits size text front is le fits i = elim (cases_lt i size) [
-  | inl lt ↦ subst (λ (z : ℕ). z < 256) (sym (get_or-take text size i 0 lt) ∙ ap (λ (z : List ℕ). get_or z i 0) (sym is)) (fits i)
+  | inl lt ↦ subst (λ (z : ℕ). z < 256) (sym (get_or-take size text i 0 lt) ∙ ap (λ (z : List ℕ). get_or z i 0) (sym is)) (fits i)
   | inr past ↦ subst (λ (z : ℕ). z < 256) (sym (get_or_past front i 0 (omega (arith, past, front_size size text front is le)))) (omega arith)
 ]
 

@@ -1,5 +1,5 @@
 -- Places at which a body stops.
-use Rattle.std.proofs.Common.{◌≡◌, ◌⊎◌, inl, inr, ℕ, ◌+◌, ◌≤◌, List, [], ◌∷◌, ◌++◌, length, refl, ap, arith, length-append}
+use Rattle.std.proofs.Common.{◌≡◌, ◌⊎◌, inl, inr, ℕ, ◌+◌, ◌*◌, ◌≤◌, List, [], ◌∷◌, ◌++◌, length, refl, ap, arith, length-append}
 use Rattle.index_file.specs.declared.entries.IndexEntry.{IndexEntry}
 use Rattle.index_file.specs.declared.errors.Stop.{Stop}
 use Rattle.index_file.specs.declared.errors.Stop.TheVariants.{Left, NoMemory}

@@ -6,7 +6,7 @@ use Rattle.index_file.proofs.reading.read_body.Goals as goal
 
 pub returns-in_err-list : goal.returns-in_err-list
 returns-in_err-list c =
-    let p = err_from_is_err_and c.from_residual-in_err-list.result c.from_residual-in_err-list.ensures.1 in
+    let p = err_from_is_err_and c.from_residual.result c.from_residual.ensures.1 in
     rw (p.1, p.2) (entries_stop c.args.body.now c.in-Some.text.now c.in-Some.count c.in_err-list.field-0.0 c.in-Some.ensures c.in_err-list.ensures)
 
 pub returns-in_err-check_extensions : goal.returns-in_err-check_extensions
