@@ -1,13 +1,21 @@
 -- Places at which a body stops.
-use Rattle.std.proofs.Common.{◌≡◌, ◌⊎◌, inl, inr, ℕ, ◌+◌, ◌*◌, ◌≤◌, List, [], ◌∷◌, ◌++◌, length, refl, ap, arith, length-append}
+use Rattle.std.proofs.Common.{◌≡◌, ◌⊎◌, inl, inr, ℕ, ◌+◌, ◌*◌, ◌≤◌, List, [], ◌∷◌, ◌++◌, length, Bool, true, false, not, refl, sym, ap, subst, ◌∙◌, arith, length-append}
 use Rattle.index_file.specs.declared.entries.IndexEntry.{IndexEntry}
+use Rattle.std.specs.Prelude.{nat_eq}
+use Rattle.std.specs.Cmp.Lexicographic.{pointwise}
+use Rattle.std.proofs.lemmas.Bool.{false≢true}
+use Rattle.std.proofs.lemmas.Bool.Decides.{nat_tests}
+use Rattle.sha1.specs.Sha1.{sha1}
+use Rattle.index_file.specs.declared.errors.IndexErr.{IndexErr}
+use Rattle.index_file.specs.declared.errors.IndexErr.TheVariants.{BadIndex, NoMemory as WantOfMemory}
 use Rattle.index_file.specs.declared.errors.Stop.{Stop}
 use Rattle.index_file.specs.declared.errors.Stop.TheVariants.{Left, NoMemory}
 use Rattle.index_file.specs.Entries.{entry_of, four, last_path, number_of, two}
-use Rattle.index_file.specs.Index.{AreEntries, AreExtensions}
+use Rattle.index_file.specs.Index.{AreEntries, AreExtensions, IsBody, body_of, sum_of}
 use Rattle.index_file.specs.Pieces.{IsEntryText, IsExtension, IsFlags, IsHead, IsIdText, IsModeText, IsPassed, IsPathText, head_text}
-use Rattle.index_file.specs.Steps.{StopsBy}
-use Rattle.index_file.specs.Stops.{StopsBehindEntries, StopsInBody, StopsInEntries, StopsInEntry, StopsInPadding, StopsInPath}
+use Rattle.index_file.specs.Reads.{RefusesIndex}
+use Rattle.index_file.specs.Steps.{RefusesBody, StopsBy}
+use Rattle.index_file.specs.Stops.{StopsAt, StopsBehindEntries, StopsInBody, within, in_sum, StopsInEntries, StopsInEntry, StopsInPadding, StopsInPath}
 use Rattle.index_file.specs.Things.{AreThings, StopsIn, here, later}
 
 -- where entries stop, the body does
@@ -57,3 +65,20 @@ behind_bounded count text left (inr h) =
 
 pub body_bounded : (body : List ℕ) (left : ℕ) → StopsInBody body left → left ≤ length body
 body_bounded = bounded IsHead (λ count text left. StopsInEntries count text left ⊎ StopsBehindEntries count text left) (λ v t a h. behind t (head_text v) a h.printed) behind_bounded
+
+-- ---- where bytes stop
+
+pub refuses : (bytes body : List ℕ) (e : IndexErr) → body ≡ body_of bytes → RefusesBody body e → RefusesIndex bytes e
+refuses bytes body (BadIndex at) same h = within h.0 (subst (λ (z : List ℕ). StopsInBody z h.0) same h.1) (h.2 ∙ ap length same)
+refuses bytes body WantOfMemory same h = tt
+
+pub other_sum : (bytes body sum made : List ℕ) (list : List IndexEntry) → body ≡ body_of bytes → sum ≡ sum_of bytes → IsBody list body → made ≡ sha1 body → not (pointwise nat_eq sum made) ≡ true → StopsAt bytes (length body)
+other_sum bytes body sum made list is_body is_sum h is_made differ =
+    in_sum list (subst (λ (z : List ℕ). IsBody list z) is_body h) (λ e. differs sum made differ (is_sum ∙ e ∙ ap sha1 (sym is_body) ∙ sym is_made)) (ap length is_body)
+  where
+    itself : (xs : List ℕ) → pointwise nat_eq xs xs ≡ true
+    itself [] = refl
+    itself (x ∷ xs) = let rest = itself xs in grind (arith, nat_tests)
+
+    differs : (xs ys : List ℕ) → not (pointwise nat_eq xs ys) ≡ true → xs ≡ ys → ⊥
+    differs xs ys d same = false≢true (sym (ap not (itself ys)) ∙ sym (ap (λ (z : List ℕ). not (pointwise nat_eq z ys)) same) ∙ d)

@@ -1,16 +1,19 @@
 -- What is read and written step by step.
-use Rattle.std.specs.Prelude.{◌≡◌, ◌<◌, ◌^◌, ℕ, Bool, ◌&&◌, List, [], ◌∷◌, ◌++◌, length, get_or}
+use Rattle.std.specs.Prelude.{◌≡◌, ◌+◌, ℕ, Bool, ◌&&◌, List, [], ◌∷◌, ◌++◌, length, get_or}
 use Rattle.std.specs.Prelude.{IsUtf8}
 use Rattle.std.specs.Char.{is_ascii_alphabetic, is_ascii_uppercase}
 use Rattle.std.specs.List.{All, list_all}
 use Rattle.git_objects.specs.declared.entries.Mode.{Mode}
 use Rattle.git_objects.specs.declared.ids.Id.{Id}
 use Rattle.index_file.specs.declared.entries.IndexEntry.{IndexEntry}
+use Rattle.index_file.specs.declared.errors.IndexErr.{IndexErr}
+use Rattle.index_file.specs.declared.errors.IndexErr.TheVariants.{BadIndex, NoMemory as WantOfMemory}
 use Rattle.index_file.specs.declared.errors.Stop.{Stop}
 use Rattle.index_file.specs.declared.errors.Stop.TheVariants.{Left, NoMemory}
 use Rattle.index_file.specs.Entries.{four, mark_of, number_of, padding, two}
 use Rattle.index_file.specs.Index.{AreEntries, AreExtensions, IsIndexText, index_text}
 use Rattle.index_file.specs.Pieces.{IsExtension, IsPadding, IsPassed, IsPathText}
+use Rattle.index_file.specs.Stops.{StopsInBody}
 
 -- So many bytes stand at the front, and this follows them.
 abbrev pub HasPassed : ℕ → List ℕ → List ℕ → Type 0
@@ -55,6 +58,12 @@ OnlyExtensions text = (extensions : List (List ℕ)) × AreExtensions extensions
 abbrev pub StopsBy : (ℕ → Type 0) → Stop → Type 0
 StopsBy stops (Left left) = stops left
 StopsBy stops NoMemory = Unit {0}
+
+-- A body stops at this byte; or memory is wanting.
+abbrev pub RefusesBody : List ℕ → IndexErr → Type 0
+RefusesBody body (BadIndex at) =
+    (left : ℕ) × StopsInBody body left × (at + left ≡ length body)
+RefusesBody body WantOfMemory = Unit {0}
 
 -- The flags, the path and its padding, as they are written.
 abbrev pub path_text : List ℕ → List ℕ

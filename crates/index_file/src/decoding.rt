@@ -2,12 +2,27 @@
 ghost use Rattle.std.specs.Prelude.{MatchResult};
 ghost use Rattle.index_file.specs.Index.{IsIndexText};
 ghost use Rattle.index_file.specs.Reads.{RefusesIndex};
+ghost use Rattle.index_file.specs.Steps.{RefusesBody, StopsBy};
+ghost use Rattle.index_file.specs.Stops.{StopsInBody};
 
 use crate::entries::IndexEntry;
 use crate::errors::{IndexErr, Stop};
 use crate::reading::read_body;
 use sha1::Sha1;
 use std::alloc::Global;
+
+// Why a body that stops is refused.
+fn refusal(body: &[u8], stop: Stop) -> IndexErr
+    requires { StopsBy (StopsInBody body.now) stop }
+    ensures { RefusesBody body.now result }
+{
+    match stop {
+        Stop::Left(left) => IndexErr::BadIndex {
+            at: (body.len() - left) as u64,
+        },
+        Stop::NoMemory => IndexErr::NoMemory,
+    }
+}
 
 /// The list whose index these bytes are. Numbers that say nothing of an entry, the highest bit of its
 /// flags and extensions that begin with a capital letter are passed over.
@@ -18,11 +33,7 @@ pub fn decode(alloc: Global, bytes: &[u8]) -> Result<Vec<IndexEntry>, IndexErr>
     let (body, sum) = bytes.split_at(bytes.len().saturating_sub(20));
     let list = match read_body(alloc, body) {
         Ok(list) => list,
-        Err(Stop::Left(left)) => {
-            let at = (body.len() - left) as u64;
-            return Err(IndexErr::BadIndex { at });
-        }
-        Err(Stop::NoMemory) => return Err(IndexErr::NoMemory),
+        Err(stop) => return Err(refusal(body, stop)),
     };
     let at = body.len() as u64;
     if sum != Sha1::digest(body).as_slice() {
