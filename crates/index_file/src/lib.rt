@@ -9,9 +9,11 @@ mod fields;
 mod laws;
 mod paths;
 mod reading;
+mod validity;
 
 pub use decoding::decode;
 pub use encoding::encode;
 pub use entries::IndexEntry;
 pub use errors::IndexErr;
 pub use laws::{have_one_reading, reread};
+pub use validity::is_index;
