@@ -1,13 +1,9 @@
 -- An entry's text as the things of which it is made.
-use Rattle.std.proofs.Common.{◌≡◌, ℕ, ◌+◌, ◌*◌, ◌<◌, List, [], ◌∷◌, ◌++◌, length, refl, sym, ap, subst, ◌∙◌, append_assoc, arith}
-use Rattle.git_objects.specs.declared.entries.Mode.{Mode}
-use Rattle.git_objects.specs.declared.ids.Id.{Id}
+use Rattle.std.proofs.Common.{◌≡◌, ℕ, ◌+◌, ◌*◌, List, ◌++◌, length, refl, sym, ap, subst, ◌∙◌, append_assoc, arith}
 use Rattle.index_file.specs.declared.entries.IndexEntry.{IndexEntry}
 use Rattle.index_file.specs.Entries.{entry_of, four, mark_of, number_of, padding, two}
 use Rattle.index_file.specs.Pieces.{IsEntryText, IsFlags, IsIdText, IsModeText, IsPadding, IsPassed, IsPathText}
-use Rattle.index_file.specs.Steps.{entry_seen}
 use Rattle.index_file.specs.Stops.{StopsInEntry, StopsInPadding, StopsInPath}
-use Rattle.index_file.specs.Things.{StopsIn}
 use Rattle.index_file.proofs.Pieces.{flags_once, id_once, mode_once, nul_behind, padding_once, passed_once, path_once}
 use Rattle.index_file.proofs.Runs.{IsOnce, no_stop, once_at, one_stop}
 

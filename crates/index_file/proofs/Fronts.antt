@@ -1,7 +1,7 @@
 -- What is read at the front of a text.
 use Rattle.std.proofs.Common.{◌≡◌, ℕ, zero, suc, ◌+◌, ◌*◌, ◌<◌, ◌≤◌, ◌^◌, true, false, List, [], ◌∷◌, ◌++◌, length, take, drop, get_or, inl, inr, refl, sym, ap, subst, ◌∙◌, arith, length-append}
 use Rattle.std.specs.Prelude.{◌==◌, ◌&&◌, Some, None, IsUtf8}
-use Rattle.std.specs.Int.{to_be_bytes, from_be_bytes, w16, w32}
+use Rattle.std.specs.Int.{from_be_bytes, w16, w32}
 use Rattle.std.specs.List.{position}
 use Rattle.std.specs.Cmp.Lexicographic.{slice_cmp}
 use Rattle.std.specs.Ordering.{is_ge, is_lt, nat_cmp}
@@ -16,7 +16,7 @@ use Rattle.git_objects.specs.declared.entries.Mode.{Mode}
 use Rattle.git_objects.specs.declared.entries.Mode.TheVariants.{File, Exec, Link, Dir, Pin}
 use Rattle.git_objects.specs.declared.ids.Id.{Id}
 use Rattle.git_objects.proofs.Cutting.{cut_none, cut_some, cut_once, lacks_none, same_length}
-use Rattle.index_file.specs.Entries.{four, longest_said, mark_of, number_of, two}
+use Rattle.index_file.specs.Entries.{four, longest_said, two}
 use Rattle.index_file.specs.Pieces.{IsCutPath, IsExtension, IsFlags, IsIdText, IsModeText, IsPathText}
 use Rattle.index_file.specs.Steps.{NoModeNumber, is_passed_name}
 use Rattle.index_file.specs.Things.{Lacking}

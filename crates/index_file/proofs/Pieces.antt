@@ -1,6 +1,6 @@
 -- A text has at most one of each thing at its front.
-use Rattle.std.proofs.Common.{◌≡◌, ℕ, ◌+◌, ◌*◌, ◌<◌, ◌≤◌, ◌^◌, true, false, cond, eqb, zero, suc, List, [], ◌∷◌, ◌++◌, length, take, drop, get_or, replicate, refl, sym, ap, subst, ◌∙◌, inl, inr, arith, length-append, append_assoc}
-use Rattle.std.specs.Int.{to_be_bytes, from_be_bytes, w16, w32}
+use Rattle.std.proofs.Common.{◌≡◌, ℕ, ◌+◌, ◌*◌, ◌<◌, ◌^◌, false, cond, eqb, zero, suc, List, [], ◌∷◌, ◌++◌, length, drop, replicate, refl, sym, ap, ◌∙◌, inl, inr, arith, length-append}
+use Rattle.std.specs.Int.{from_be_bytes, w16, w32}
 use Rattle.std.proofs.lemmas.Bool.{cases_lt, false≢true}
 use Rattle.std.proofs.lemmas.Nat.{from_be_bytes-to_be_bytes_2, from_be_bytes-to_be_bytes_4}
 use Rattle.std.proofs.lemmas.Nat.{mod_below}
@@ -8,7 +8,7 @@ use Rattle.git_objects.specs.All.{is_dir}
 use Rattle.git_objects.specs.declared.entries.Mode.{Mode}
 use Rattle.git_objects.specs.declared.entries.Mode.TheVariants.{File, Exec, Link, Dir, Pin}
 use Rattle.git_objects.proofs.Cutting.{cut_once, same_length}
-use Rattle.index_file.specs.Entries.{four, longest_said, mark_of, number_of, padding, two}
+use Rattle.index_file.specs.Entries.{four, mark_of, number_of, padding, two}
 use Rattle.index_file.specs.Pieces.{BeginsWithNul, IsCutPath, IsExtension, IsFlags, IsHead, IsIdText, IsModeText, IsPadding, IsPassed, IsPathText, head_text}
 use Rattle.index_file.proofs.Runs.{IsOnce}
 

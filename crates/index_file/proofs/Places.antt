@@ -1,5 +1,5 @@
 -- Places at which a body stops.
-use Rattle.std.proofs.Common.{◌≡◌, ◌⊎◌, inl, inr, ℕ, ◌+◌, ◌*◌, ◌≤◌, List, [], ◌∷◌, ◌++◌, length, Bool, true, false, not, refl, sym, ap, subst, ◌∙◌, arith, length-append}
+use Rattle.std.proofs.Common.{◌≡◌, ◌⊎◌, inl, inr, ℕ, ◌+◌, ◌*◌, ◌≤◌, List, [], ◌∷◌, ◌++◌, length, true, not, refl, sym, ap, subst, ◌∙◌, arith, length-append}
 use Rattle.index_file.specs.declared.entries.IndexEntry.{IndexEntry}
 use Rattle.std.specs.Prelude.{nat_eq}
 use Rattle.std.specs.Cmp.Lexicographic.{pointwise}
@@ -11,11 +11,11 @@ use Rattle.index_file.specs.declared.errors.IndexErr.TheVariants.{BadIndex, NoMe
 use Rattle.index_file.specs.declared.errors.Stop.{Stop}
 use Rattle.index_file.specs.declared.errors.Stop.TheVariants.{Left, NoMemory}
 use Rattle.index_file.specs.Entries.{entry_of, four, last_path, number_of, two}
-use Rattle.index_file.specs.Index.{AreEntries, AreExtensions, IsBody, body_of, sum_of}
+use Rattle.index_file.specs.Index.{AreEntries, IsBody, body_of, sum_of}
 use Rattle.index_file.specs.Pieces.{IsEntryText, IsExtension, IsFlags, IsHead, IsIdText, IsModeText, IsPassed, IsPathText, head_text}
 use Rattle.index_file.specs.Reads.{RefusesIndex}
 use Rattle.index_file.specs.Steps.{RefusesBody, StopsBy}
-use Rattle.index_file.specs.Stops.{StopsAt, StopsBehindEntries, StopsInBody, within, in_sum, StopsInEntries, StopsInEntry, StopsInPadding, StopsInPath}
+use Rattle.index_file.specs.Stops.{StopsAt, StopsBehindEntries, StopsInBody, within, in_sum, StopsInEntries, StopsInEntry, StopsInPadding}
 use Rattle.index_file.specs.Things.{AreThings, StopsIn, here, later}
 
 -- where entries stop, the body does

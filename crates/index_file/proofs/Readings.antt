@@ -1,20 +1,19 @@
 -- Bytes have one reading, or one place where they stop.
-use Rattle.std.proofs.Common.{◌≡◌, ◌⊎◌, inl, inr, ℕ, ◌+◌, ◌<◌, List, [], ◌∷◌, ◌++◌, length, refl, sym, ap, subst, ◌∙◌, arith, length-append}
+use Rattle.std.proofs.Common.{◌≡◌, ◌⊎◌, inl, inr, ℕ, ◌<◌, List, [], ◌∷◌, ◌++◌, length, refl, sym, ap, subst, ◌∙◌, arith, length-append}
 use Rattle.std.specs.Prelude.{MatchResult, Result, Ok, Err, Vec}
 use Rattle.index_file.specs.declared.errors.IndexErr.{IndexErr}
 use Rattle.index_file.specs.declared.errors.IndexErr.TheVariants.{BadIndex, NoMemory}
 use Rattle.index_file.specs.Reads.{RefusesIndex}
 use Rattle.std.specs.declared.alloc.Global.{Global}
-use Rattle.sha1.specs.Sha1.{sha1}
 use Rattle.index_file.specs.declared.entries.IndexEntry.{IndexEntry}
 use Rattle.index_file.specs.Entries.{last_path}
-use Rattle.index_file.specs.Index.{AreEntries, AreExtensions, IsBody, IsIndexText, body_of, sum_of}
+use Rattle.index_file.specs.Index.{AreEntries, AreExtensions, IsBody, IsIndexText, body_of}
 use Rattle.index_file.specs.Pieces.{IsEntryText, IsExtension, IsHead}
 use Rattle.index_file.specs.Stops.{StopsAt, StopsBehindEntries, StopsInBody, StopsInEntries, StopsInEntry, StopsInExtensions, within, in_sum}
-use Rattle.index_file.specs.Things.{AreThings, piled}
+use Rattle.index_file.specs.Things.{piled}
 use Rattle.index_file.proofs.EntryTexts.{entry_once, no_entry_stop, one_entry_stop}
 use Rattle.index_file.proofs.Pieces.{extension_once, head_once, no_extension_in_nothing}
-use Rattle.index_file.proofs.Runs.{AreOne, GoesOn, IsOnce, apart, no_stop, one_stop, piled_push, push}
+use Rattle.index_file.proofs.Runs.{AreOne, GoesOn, apart, no_stop, one_stop, piled_push, push}
 
 abbrev Entry : List IndexEntry → IndexEntry → List ℕ → List ℕ → Type 0
 Entry before entry = IsEntryText (last_path before) entry

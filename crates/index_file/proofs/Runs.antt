@@ -1,6 +1,6 @@
 -- Things in a text, one after the other, of kinds of which a text has at most one at its front.
-use Rattle.std.proofs.Common.{◌≡◌, ◌⊎◌, inl, inr, ℕ, List, [], ◌∷◌, ◌++◌, length, refl, sym, ap, subst, ◌∙◌}
-use Rattle.index_file.specs.Things.{AreThings, Lacking, StopsIn, piled, here, later}
+use Rattle.std.proofs.Common.{◌≡◌, ◌⊎◌, inl, inr, ℕ, List, [], ◌∷◌, ◌++◌, refl, sym, subst, ◌∙◌}
+use Rattle.index_file.specs.Things.{AreThings, StopsIn, piled, here, later}
 
 -- a text has at most one thing of this kind at its front
 abbrev pub IsOnce : {V : Type 0} → (V → List ℕ → List ℕ → Type 0) → Type 0

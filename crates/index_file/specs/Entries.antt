@@ -1,13 +1,12 @@
 -- The entries of an index, and their texts.
-use Rattle.std.specs.Prelude.{◌≡◌, ℕ, true, false, ◌+◌, ◌*◌, ◌-◌, ◌%◌, ◌≤◌, List, [], ◌∷◌, ◌++◌}
-use Rattle.std.specs.Prelude.{length, min, replicate, IsUtf8}
+use Rattle.std.specs.Prelude.{◌≡◌, ℕ, true, false, ◌+◌, ◌*◌, ◌-◌, ◌%◌, List, [], ◌∷◌, ◌++◌}
+use Rattle.std.specs.Prelude.{length, min, replicate}
 use Rattle.std.specs.Cmp.Lexicographic.{slice_cmp}
 use Rattle.std.specs.Int.{to_be_bytes, w16, w32}
 use Rattle.std.specs.Ordering.{is_lt, nat_cmp}
 use Rattle.git_objects.specs.All.{is_dir, Lacks}
 use Rattle.git_objects.specs.declared.entries.Mode.{Mode}
 use Rattle.git_objects.specs.declared.entries.Mode.TheVariants.{File, Exec, Link, Dir, Pin}
-use Rattle.git_objects.specs.declared.ids.Id.{Id}
 use Rattle.index_file.specs.declared.entries.IndexEntry.{IndexEntry}
 
 -- The number of a mode: 81A4, 81ED, A000 and E000 in hexadecimal digits. A directory has none of its

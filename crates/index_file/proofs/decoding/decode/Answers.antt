@@ -1,4 +1,4 @@
-use Rattle.std.proofs.Common.{◌≡◌, ◌∙◌, ◌-◌, ℕ, take, drop, length, sym, ap}
+use Rattle.std.proofs.Common.{◌≡◌, ◌∙◌, ℕ, take, drop, sym, ap}
 use Rattle.index_file.specs.Index.{body_of, sum_of}
 use Rattle.index_file.proofs.Places.{other_sum, refuses}
 use Rattle.index_file.proofs.decoding.decode.Goals as goal

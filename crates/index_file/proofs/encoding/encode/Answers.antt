@@ -1,4 +1,4 @@
-use Rattle.std.proofs.Common.{◌≡◌, ◌∙◌, ◌++◌, List, ℕ, ap, sym, rules, length}
+use Rattle.std.proofs.Common.{◌≡◌, ◌∙◌, ◌++◌, ap, sym, rules, length}
 use Rattle.sha1.specs.Sha1.{sha1}
 use Rattle.index_file.specs.Index.{body_text}
 use Rattle.index_file.proofs.Written.{written}

@@ -1,4 +1,4 @@
-use Rattle.std.proofs.Common.{◌≡◌, List, ℕ, subst, sym}
+use Rattle.std.proofs.Common.{List, ℕ, subst, sym}
 use Rattle.index_file.specs.Index.{IsIndexText}
 use Rattle.index_file.proofs.Readings.{read_again}
 use Rattle.index_file.proofs.laws.reread.Goals as goal

@@ -1,5 +1,4 @@
 use Rattle.std.proofs.Common.{sym}
-use Rattle.std.proofs.Common.{rules}
 use Rattle.index_file.proofs.Fronts.{early_nul, long_path, no_nul_no_path}
 use Rattle.index_file.proofs.paths.cut_long.Goals as goal
 

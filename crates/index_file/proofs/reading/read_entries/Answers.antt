@@ -1,4 +1,4 @@
-use Rattle.std.proofs.Common.{◌≡◌, ◌∙◌, [], ◌∷◌, ◌++◌, List, refl, sym, ap, subst, arith, length-append, length}
+use Rattle.std.proofs.Common.{◌≡◌, ◌∙◌, [], ◌∷◌, ◌++◌, List, sym, ap, subst, arith, length-append, length}
 use Rattle.index_file.specs.declared.entries.IndexEntry.{IndexEntry}
 use Rattle.index_file.specs.Entries.{last_path}
 use Rattle.index_file.specs.Index.{AreEntries}
