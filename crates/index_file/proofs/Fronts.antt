@@ -4,9 +4,7 @@ use Rattle.std.specs.Prelude.{◌==◌, ◌&&◌, Some, None, IsUtf8}
 use Rattle.std.specs.Int.{from_be_bytes, w16, w32}
 use Rattle.std.specs.List.{position}
 use Rattle.std.specs.Cmp.Lexicographic.{slice_cmp}
-use Rattle.std.specs.Ordering.{is_ge, is_lt, nat_cmp}
-use Rattle.std.specs.declared.cmp.Ordering.{Ordering}
-use Rattle.std.specs.declared.cmp.Ordering.TheVariants.{Less, Equal, Greater}
+use Rattle.std.specs.Ordering.{is_lt, nat_cmp}
 use Rattle.std.proofs.lemmas.Bool.{and_parts, cases_lt, false≢true}
 use Rattle.std.proofs.lemmas.List.{get_or-take, get_or_past, length-take-le, take-append-drop}
 use Rattle.std.proofs.lemmas.List.Quantifiers.{position-Some}
@@ -112,15 +110,10 @@ early_nul text size found early path after h =
     let same = cut_once 0 path (take size text) end.0 (drop 1 (drop size text)) h.whole cut.first (ap (λ (z : List ℕ). path ++ z) (sym end.1) ∙ sym h.printed ∙ cut.parts) in
     omega (arith, h.marked, ap length same.0, length-take-le size text le, early)
 
-not_below : (o : Ordering) → is_ge o ≡ true → is_lt o ≡ true → ⊥
-not_below Less ge lt = false≢true ge
-not_below Equal ge lt = false≢true lt
-not_below Greater ge lt = false≢true lt
-
-pub no_path_above : (last path text rest : List ℕ) (mark : ℕ) → IsCutPath mark path text rest → is_ge (slice_cmp nat_cmp last path) ≡ true → Lacking (IsPathText last mark) text
-no_path_above last path text rest mark cut ge other after h =
+pub no_path_above : (last path text rest : List ℕ) (mark : ℕ) → IsCutPath mark path text rest → is_lt (slice_cmp nat_cmp last path) ≡ false → Lacking (IsPathText last mark) text
+no_path_above last path text rest mark cut not_above other after h =
     let same = cut_path_once mark other path text after rest h.cut cut in
-    not_below (slice_cmp nat_cmp last path) ge (subst (λ (z : List ℕ). is_lt (slice_cmp nat_cmp last z) ≡ true) same.0 h.above)
+    false≢true (sym not_above ∙ subst (λ (z : List ℕ). is_lt (slice_cmp nat_cmp last z) ≡ true) same.0 h.above)
 
 pub no_utf8_path : (last path text rest : List ℕ) (mark : ℕ) → IsCutPath mark path text rest → (IsUtf8 path → ⊥) → Lacking (IsPathText last mark) text
 no_utf8_path last path text rest mark cut odd other after h =

@@ -80,11 +80,11 @@ pub cut_path_once : (mark : ℕ) → IsOnce (IsCutPath mark)
 cut_path_once mark v w text a b h k = elim (cases_lt mark 4095) [
   | inl lt ↦ same_length v w a b (short_path mark v lt h.marked ∙ sym (short_path mark w lt k.marked)) (sym h.printed ∙ k.printed)
   | inr le ↦
-    let most : mark ≡ 4095 = omega (arith, le, h.marked) in
-    let one = h.ends most in
-    let other = k.ends most in
-    let same = cut_once 0 v w one.0 other.0 h.whole k.whole (ap (λ (z : List ℕ). v ++ z) (sym one.1) ∙ sym h.printed ∙ k.printed ∙ ap (λ (z : List ℕ). w ++ z) other.1) in
-    (same.0, one.1 ∙ ap (λ (z : List ℕ). 0 ∷ z) same.1 ∙ sym other.1)
+      let most : mark ≡ 4095 = omega (arith, le, h.marked) in
+      let one = h.ends most in
+      let other = k.ends most in
+      let same = cut_once 0 v w one.0 other.0 h.whole k.whole (ap (λ (z : List ℕ). v ++ z) (sym one.1) ∙ sym h.printed ∙ k.printed ∙ ap (λ (z : List ℕ). w ++ z) other.1) in
+      (same.0, one.1 ∙ ap (λ (z : List ℕ). 0 ∷ z) same.1 ∙ sym other.1)
 ]
 
 pub path_once : (last : List ℕ) (mark : ℕ) → IsOnce (IsPathText last mark)

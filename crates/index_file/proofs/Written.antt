@@ -30,8 +30,7 @@ pub entries_read : (before list : List IndexEntry) (after : List ℕ) → Ascend
     → AreThings (λ earlier entry. IsEntryText (last_path earlier) entry) before list (flat_map entry_text list ++ after) after
 entries_read before [] after follows stored = refl
 entries_read before (e ∷ es) after follows stored =
-    let rest = flat_map entry_text es ++ after in
-    (
+    let rest = flat_map entry_text es ++ after in (
       rest,
       subst (λ (z : List ℕ). IsEntryText (last_path before) e z rest) (sym (append_assoc (entry_text e) (flat_map entry_text es) after)) (entry_reads (last_path before) e rest (All-head IsEntryStored e es stored) (follows.0, tt)),
       entries_read (e ∷ before) es after follows.1 (All-tail IsEntryStored e es stored),

@@ -1,6 +1,6 @@
 -- The words of this crate, for those above.
-pub use Rattle.index_file.specs.Entries.{AscendFrom, IsBelow, MayFollow, entry_text, four, last_path}
-pub use Rattle.index_file.specs.Entries.{longest_said, mark_of, number_of, padding, two}
+pub use Rattle.index_file.specs.Entries.{AscendFrom, IsBelow, MayFollow, entry_text, four}
+pub use Rattle.index_file.specs.Entries.{last_path, longest_said, mark_of, number_of, padding, two}
 unfoldable pub use Rattle.index_file.specs.Entries.{entry_of}
 pub use Rattle.index_file.specs.Index.{AreEntries, AreExtensions, IsBody, IsIndex, IsIndexText}
 pub use Rattle.index_file.specs.Index.{body_of, index_text, sum_of}

@@ -7,7 +7,8 @@ use Rattle.index_file.specs.Entries.{AscendFrom, entry_text, last_path}
 use Rattle.index_file.specs.Pieces.{IsEntryText, IsExtension, IsHead, head_text}
 use Rattle.index_file.specs.Things.{AreThings}
 
--- A list that has an index: its paths ascend, no entry is a directory, and four bytes have the count.
+-- A list that has an index: its paths ascend, no entry is a directory, and four bytes have the
+-- count.
 pub record IsIndex (list : List IndexEntry) : Type 0 where
   pub few : length list < 2 ^ 32
   pub ascend : AscendFrom [] list

@@ -25,8 +25,8 @@ pub record IsIdText (id : Id) (text after : List ℕ) : Type 0 where
   pub whole : length id.0 ≡ 20
   pub printed : text ≡ id.0 ++ after
 
--- Flags that say this of a path's length. Of the four bits above the length the highest one is free,
--- and no other is set.
+-- Flags that say this of a path's length. Of the four bits above the length the highest one is
+-- free, and no other is set.
 pub record IsFlags (mark : ℕ) (text after : List ℕ) : Type 0 where
   pub bit : ℕ
   pub one : bit ≤ 1

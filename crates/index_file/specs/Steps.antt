@@ -7,7 +7,8 @@ use Rattle.git_objects.specs.declared.entries.Mode.{Mode}
 use Rattle.git_objects.specs.declared.ids.Id.{Id}
 use Rattle.index_file.specs.declared.entries.IndexEntry.{IndexEntry}
 use Rattle.index_file.specs.declared.errors.IndexErr.{IndexErr}
-use Rattle.index_file.specs.declared.errors.IndexErr.TheVariants.{BadIndex, NoMemory as WantOfMemory}
+use Rattle.index_file.specs.declared.errors.IndexErr.TheVariants.{BadIndex}
+use Rattle.index_file.specs.declared.errors.IndexErr.TheVariants.{NoMemory as WantOfMemory}
 use Rattle.index_file.specs.declared.errors.Stop.{Stop}
 use Rattle.index_file.specs.declared.errors.Stop.TheVariants.{Left, NoMemory}
 use Rattle.index_file.specs.Entries.{four, mark_of, number_of, padding, two}

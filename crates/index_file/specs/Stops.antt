@@ -17,8 +17,8 @@ pub record StopsInPadding (size : ℕ) (text : List ℕ) (left : ℕ) : Type 0 w
 abbrev pub StopsInPath : List ℕ → ℕ → List ℕ → ℕ → Type 0
 StopsInPath last mark = StopsIn (IsPathText last mark) (λ path. StopsInPadding (length path))
 
--- The first of an entry's things that isn't there: the six numbers, the mode, the three numbers, the
--- id, the flags, the path, its padding.
+-- The first of an entry's things that isn't there: the six numbers, the mode, the three numbers,
+-- the id, the flags, the path, its padding.
 abbrev pub StopsInEntry : List ℕ → List ℕ → ℕ → Type 0
 StopsInEntry last =
     StopsIn (IsPassed 24) (λ six.
@@ -59,9 +59,9 @@ StopsInBody =
     StopsIn IsHead (λ count text left.
     StopsInEntries count text left ⊎ StopsBehindEntries count text left)
 
--- The bytes are no index. Up to here each thing is as in one, and the thing that should begin at this
--- byte isn't there, or isn't whole before the last 20 bytes; or all is there, and only these 20 bytes
--- are not the SHA-1.
+-- The bytes are no index. Up to here each thing is as in one, and the thing that should begin at
+-- this byte isn't there, or isn't whole before the last 20 bytes; or all is there, and only these
+-- 20 bytes are not the SHA-1.
 pub data StopsAt (bytes : List ℕ) (at : ℕ) : Type 0 where
   within : (left : ℕ) → StopsInBody (body_of bytes) left → at + left ≡ length (body_of bytes)
       → StopsAt bytes at

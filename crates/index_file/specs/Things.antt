@@ -6,8 +6,8 @@ use Rattle.std.specs.Prelude.{◌≡◌, ℕ, List, [], ◌∷◌, length}
 abbrev pub Lacking : {V : Type 0} → (V → List ℕ → List ℕ → Type 0) → List ℕ → Type 0
 Lacking {V} thing text = (value : V) (after : List ℕ) → thing value text after → ⊥
 
--- Where a text stops, by how many bytes are left there: where a thing should stand and none does; or
--- one does, and what is behind it stops.
+-- Where a text stops, by how many bytes are left there: where a thing should stand and none does;
+-- or one does, and what is behind it stops.
 pub data StopsIn {V : Type 0} (thing : V → List ℕ → List ℕ → Type 0)
     (behind : V → List ℕ → ℕ → Type 0) (text : List ℕ) (left : ℕ) : Type 0 where
   here : Lacking thing text → left ≡ length text → StopsIn thing behind text left

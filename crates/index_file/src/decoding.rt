@@ -24,8 +24,8 @@ fn refusal(body: &[u8], stop: Stop) -> IndexErr
     }
 }
 
-/// The list whose index these bytes are. Numbers that say nothing of an entry, the highest bit of its
-/// flags and extensions that begin with a capital letter are passed over.
+/// The list whose index these bytes are. Numbers that say nothing of an entry, the highest bit of
+/// its flags and extensions that begin with a capital letter are passed over.
 pub fn decode(alloc: Global, bytes: &[u8]) -> Result<Vec<IndexEntry>, IndexErr>
     ensures { MatchResult result (λ list. IsIndexText bytes.now list.items)
         (RefusesIndex bytes.now) }

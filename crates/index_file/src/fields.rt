@@ -1,5 +1,5 @@
-// The things of which an index is made, but for paths: each is read at the front of a text, and given
-// with what follows it.
+// The things of which an index is made, but for paths: each is read at the front of a text, and
+// given with what follows it.
 ghost use Rattle.std.specs.Prelude.{◌≡◌, ◌+◌, ◌*◌, ◌<◌, ◌≤◌, ◌^◌, ◌++◌, ℕ, List, length};
 ghost use Rattle.std.specs.Prelude.{MatchOption};
 ghost use Rattle.std.specs.Char.{is_ascii_alphabetic};

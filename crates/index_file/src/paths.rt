@@ -1,7 +1,9 @@
 // Paths, and the padding behind them.
 ghost use Rattle.std.specs.Prelude.{◌≡◌, ◌<◌, ◌≤◌, ◌==◌, ◌++◌, MatchOption};
 ghost use Rattle.std.specs.Prelude.{MatchResult};
+ghost use Rattle.std.specs.Cmp.Lexicographic.{slice_cmp};
 ghost use Rattle.std.specs.List.{position};
+ghost use Rattle.std.specs.Ordering.{is_lt, nat_cmp};
 ghost use Rattle.index_file.specs.Entries.{longest_said, padding};
 ghost use Rattle.index_file.specs.Pieces.{IsCutPath, IsPathText};
 ghost use Rattle.index_file.specs.Steps.{IsPadded, NoPadding};
@@ -63,6 +65,13 @@ fn cut_path(text: &[u8], mark: usize) -> Option<(&[u8], &[u8])>
     cut_long(text)
 }
 
+// Whether a path is above the last one, in byte order.
+pub(crate) fn is_above(path: &[u8], last: &[u8]) -> bool
+    ensures { result ≡ is_lt (slice_cmp nat_cmp last.now path.now) }
+{
+    last.cmp(path).is_lt()
+}
+
 // A path that is above the last one.
 fn read_path<'a>(text: &'a [u8], mark: usize, last: &[u8]) -> Option<(&'a str, &'a [u8])>
     requires { mark ≤ longest_said }
@@ -70,7 +79,7 @@ fn read_path<'a>(text: &'a [u8], mark: usize, last: &[u8]) -> Option<(&'a str, &
         (λ read. IsPathText last.now mark read.0.now text.now read.1.now) }
 {
     let (path, rest) = cut_path(text, mark)?;
-    if last.cmp(path).is_ge() {
+    if !is_above(path, last) {
         return None;
     }
     let Ok(path) = str::from_utf8(path) else {

@@ -26,7 +26,8 @@ struct Seen<'a> {
 // bytes are left where it stops.
 fn read_entry<'a>(text: &'a [u8], last: &[u8]) -> Result<(Seen<'a>, &'a [u8]), usize>
     ensures { MatchResult result
-        (λ read. IsEntryText last.now (entry_seen read.0.path.now read.0.mode read.0.id) text.now read.1.now)
+        (λ read. IsEntryText last.now (entry_seen read.0.path.now read.0.mode read.0.id)
+        text.now read.1.now)
         (StopsInEntry last.now text.now) }
 {
     let Some(rest) = pass(text, 24) else {
@@ -59,7 +60,11 @@ fn read_entries(alloc: Global, text: &[u8], count: usize) -> Result<(Vec<IndexEn
     while list.len() < count {
         let (seen, after) = read_entry(rest, last)?;
         let path = Text::new(String::from_str(alloc, seen.path)?);
-        list.push(IndexEntry { path, mode: seen.mode, id: seen.id })?;
+        list.push(IndexEntry {
+            path,
+            mode: seen.mode,
+            id: seen.id,
+        })?;
         last = seen.path.as_bytes();
         rest = after;
     }

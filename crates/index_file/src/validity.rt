@@ -4,6 +4,7 @@ ghost use Rattle.index_file.specs.Entries.{MayFollow};
 ghost use Rattle.index_file.specs.Index.{IsIndex};
 
 use crate::entries::IndexEntry;
+use crate::paths::is_above;
 use git_objects::Mode;
 
 // Whether an entry may stand behind the last path.
@@ -14,7 +15,7 @@ fn may_follow(entry: &IndexEntry, last: &[u8]) -> bool
         return false;
     }
     let path = entry.path.as_str().as_bytes();
-    if last.cmp(path).is_ge() {
+    if !is_above(path, last) {
         return false;
     }
     !path.contains(&0)

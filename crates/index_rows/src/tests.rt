@@ -53,8 +53,12 @@ fn a_new_dataset(rt: HostRuntime) {
     bytes.extend_from_slice(&[0; 26]).expect(&rt, "memory");
     bytes.extend_from_slice(b"\x81\xa4").expect(&rt, "memory");
     bytes.extend_from_slice(&[0; 12]).expect(&rt, "memory");
-    bytes.extend_from_slice(&id_of(&rt, CONFIG).0).expect(&rt, "memory");
-    bytes.extend_from_slice(b"\x00\x0f.datalad/config\0\0\0").expect(&rt, "memory");
+    bytes
+        .extend_from_slice(&id_of(&rt, CONFIG).0)
+        .expect(&rt, "memory");
+    bytes
+        .extend_from_slice(b"\x00\x0f.datalad/config\0\0\0")
+        .expect(&rt, "memory");
     let sum = id_of(&rt, b"f211026226c609883e29308a9cefde524f0ec393");
     bytes.extend_from_slice(&sum.0).expect(&rt, "memory");
     assert_eq!(rt; bytes.len(), 112);
@@ -75,7 +79,14 @@ fn modes(rt: HostRuntime) {
     let alloc = rt.alloc();
     for (mode, number) in rows {
         let mut bytes = head(&rt, alloc, 1);
-        entry_bytes(&rt, &mut bytes, number, HELLO, b"\x00\x07", b"d\xc3\xa4/b c");
+        entry_bytes(
+            &rt,
+            &mut bytes,
+            number,
+            HELLO,
+            b"\x00\x07",
+            b"d\xc3\xa4/b c",
+        );
         bytes.extend_from_slice(b"\0\0\0").expect(&rt, "memory");
         let bytes = signed(&rt, alloc, bytes.as_slice());
         let list = vec![in alloc; entry(&rt, alloc, "d\u{e4}/b c", mode, HELLO)];
@@ -219,7 +230,14 @@ fn long_paths(rt: HostRuntime) {
         let path = "p".repeat(alloc, size).expect(&rt, "memory");
         let mut bytes = head(&rt, alloc, 1);
         let text = path.as_str();
-        entry_bytes(&rt, &mut bytes, b"\0\0\xa0\x00", HELLO, flags, text.as_bytes());
+        entry_bytes(
+            &rt,
+            &mut bytes,
+            b"\0\0\xa0\x00",
+            HELLO,
+            flags,
+            text.as_bytes(),
+        );
         for _ in 0..nuls {
             bytes.push(0).expect(&rt, "memory");
         }
@@ -245,7 +263,14 @@ fn wrong_lengths(rt: HostRuntime) {
         let path = "p".repeat(alloc, size).expect(&rt, "memory");
         let mut bytes = head(&rt, alloc, 1);
         let text = path.as_str();
-        entry_bytes(&rt, &mut bytes, b"\0\0\xa0\x00", HELLO, flags, text.as_bytes());
+        entry_bytes(
+            &rt,
+            &mut bytes,
+            b"\0\0\xa0\x00",
+            HELLO,
+            flags,
+            text.as_bytes(),
+        );
         bytes.extend_from_slice(&[0; 8]).expect(&rt, "memory");
         let bytes = signed(&rt, alloc, bytes.as_slice());
         assert_eq!(rt; stop(&rt, alloc, bytes.as_slice()), place, "{size}");
@@ -267,8 +292,10 @@ fn lists_without_an_index(rt: HostRuntime) {
     ];
     let alloc = rt.alloc();
     for (one, mode, two, other, is) in rows {
-        let list = vec![in alloc; entry(&rt, alloc, one, mode, EMPTY),
-            entry(&rt, alloc, two, other, HELLO)];
+        let list = vec![in alloc;
+            entry(&rt, alloc, one, mode, EMPTY),
+            entry(&rt, alloc, two, other, HELLO),
+        ];
         let list = list.expect(&rt, "memory");
         assert!(rt; is_index(list.as_slice()) == is, "{one} {two}");
         if is_index(list.as_slice()) {

@@ -41,7 +41,9 @@ pub(super) fn entry_bytes(
     bytes.extend_from_slice(&[0; 24]).expect(rt, "memory");
     bytes.extend_from_slice(number).expect(rt, "memory");
     bytes.extend_from_slice(&[0; 12]).expect(rt, "memory");
-    bytes.extend_from_slice(&id_of(rt, hex).0).expect(rt, "memory");
+    bytes
+        .extend_from_slice(&id_of(rt, hex).0)
+        .expect(rt, "memory");
     bytes.extend_from_slice(flags).expect(rt, "memory");
     bytes.extend_from_slice(path).expect(rt, "memory");
 }
@@ -84,7 +86,13 @@ pub(super) fn changed(
 }
 
 // The first bytes, and those of an end behind them.
-pub(super) fn cut(rt: &impl Abort, alloc: Global, bytes: &[u8], size: usize, end: &[u8]) -> Vec<u8> {
+pub(super) fn cut(
+    rt: &impl Abort,
+    alloc: Global,
+    bytes: &[u8],
+    size: usize,
+    end: &[u8],
+) -> Vec<u8> {
     let mut made = Vec::new(alloc);
     for byte in bytes.iter().take(size) {
         made.push(*byte).expect(rt, "memory");

@@ -14,7 +14,8 @@ returns-then-behind-size c =
 
 pub returns : goal.returns
 returns c =
-    let le : 4 ≤ length c.args.text.now = omega (arith, c.split_at.ensures.front_len, c.split_at.ensures.back_len) in
-    (c.split_at-2.result.0.now,
-    extension_read c.args.text.now c.split_at.result.0.now c.split_at.result.1.now c.in-Some.behind.now c.split_at-2.result.0.now c.split_at-2.result.1.now c.in-Some.size c.split_at.ensures.front c.split_at.ensures.back le
-    (sym c.is_passed_name.ensures ∙ c.if-not-is_passed_name.false) c.in-Some.ensures.0 c.in-Some.ensures.1 c.split_at-2.ensures.front c.split_at-2.ensures.back c.split_at-2.ensures.front_len)
+    let le : 4 ≤ length c.args.text.now = omega (arith, c.split_at.ensures.front_len, c.split_at.ensures.back_len) in (
+      c.split_at-2.result.0.now,
+      extension_read c.args.text.now c.split_at.result.0.now c.split_at.result.1.now c.in-Some.behind.now c.split_at-2.result.0.now c.split_at-2.result.1.now c.in-Some.size c.split_at.ensures.front c.split_at.ensures.back le
+          (sym c.is_passed_name.ensures ∙ c.if-not-is_passed_name.false) c.in-Some.ensures.0 c.in-Some.ensures.1 c.split_at-2.ensures.front c.split_at-2.ensures.back c.split_at-2.ensures.front_len,
+    )
