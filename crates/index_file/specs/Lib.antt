@@ -1,0 +1,9 @@
+pub mod All
+pub mod Entries
+pub mod Index
+pub mod Laws
+pub mod Pieces
+pub mod Reads
+pub mod Steps
+pub mod Stops
+pub mod Things
