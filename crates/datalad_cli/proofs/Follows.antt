@@ -8,12 +8,12 @@ use Rattle.dataset.specs.All.{Sound}
 use Rattle.recursive_save.specs.All.{CreateKeepsSound, SaveKeepsSound, SaveIsComplete, SaveIsOne}
 use Rattle.recursive_save.specs.All.{IsSoundRefusal, SaveKeeps, StatusEnds, StatusIsComplete, StatusIsOne}
 use Rattle.repository.specs.All.{repo_of}
-use Rattle.history.specs.All.{IsSoundNoLog, LogIsComplete, LogIsOne}
+use Rattle.history.specs.All.{LogIsComplete, LogIsOne, LogOfNameIsComplete}
 use Rattle.dl_words.specs.declared.words.Word.{Word}
 use Rattle.dl_words.specs.declared.words.Words.{Words}
 use Rattle.dl_words.specs.declared.words.Words.TheVariants as words
-use Rattle.datalad_cli.specs.Commands.{Command, Help, HasOneAct, IsActOf, IsSoundFault, Log, LogComes}
-use Rattle.datalad_cli.specs.Commands.{MayAnswer, StatusOf, Version, command_of}
+use Rattle.datalad_cli.specs.Commands.{Command, Help, HasOneAct, IsActOf, IsSoundFault}
+use Rattle.datalad_cli.specs.Commands.{IsSoundLogFault, Log, LogComes, MayAnswer, StatusOf, Version, command_of}
 use Rattle.datalad_cli.specs.Ends.{AtEachMoment, KeepsSound}
 use Rattle.datalad_cli.specs.Finding.{Location, location_by}
 use Rattle.datalad_cli.specs.Help.{help_text, version_text}
@@ -27,7 +27,7 @@ use Rattle.datalad_cli.proofs.Soundly.{create_sound, save_sound, save_refused, s
 pub record Follows (command : Command) (old new : Drive) : Type 0 where
   pub leaves : (act : Act (List ℕ)) → IsActOf command (present old) act → Moments act old new → AtEachMoment command act old new
   pub sound : (act : Act (List ℕ)) → IsActOf command (present old) act → KeepsSound command act old new
-  pub refused : (act : Act (List ℕ)) (fault : Fault) → IsActOf command (present old) act → EndsRefused act.ending fault (Reaches act old new) → MayAnswer true command fault → Sound (present old) → IsSoundFault command fault
+  pub refused : (act : Act (List ℕ)) (fault : Fault) → IsActOf command (present old) act → EndsRefused act.ending fault (Reaches act old new) → MayAnswer true command fault → Sound (present old) → IsSoundFault command (present old) fault
   pub one : HasOneAct command (present old)
 
 -- the laws of all commands
@@ -41,6 +41,7 @@ pub record CommandLaws : Type 0 where
   pub seen : StatusIsComplete
   pub logged : LogIsOne
   pub answers : LogIsComplete
+  pub named : LogOfNameIsComplete
 
 module _ (laws : CommandLaws) (cwd : Names) (moment : ℕ) (dated : moment < 2 ^ 64) (fresh : List ℕ) (old new : Drive) where
   log_follows : (at : Location) (word : List ℕ) → Follows (Log at word) old new
@@ -52,7 +53,10 @@ module _ (laws : CommandLaws) (cwd : Names) (moment : ℕ) (dated : moment < 2 ^
     sound = λ act is can sound settled.
         let none = read_still (LogComes word) at (present old) act is in
         still_sound none.0 act old new none.1 sound settled;
-    refused = λ act fault is ends may sound. read_refused (LogComes word) (IsSoundNoLog word) (λ root g own. laws.answers root word g own) at (present old) fault (Reaches act old new) act is ends sound;
+    refused = λ act fault is ends may sound.
+        read_refused (LogComes word) (λ root g fault. IsSoundLogFault word g root fault)
+        (λ root g fault sound dataset no. (laws.answers root word g fault sound dataset no, λ name. laws.named root word g fault sound dataset name no))
+        at (present old) fault (Reaches act old new) act is ends sound;
     one = λ one two is other. read_has_one (LogComes word) (λ root. laws.logged (repo_of root) word) at (present old) one two is other;
   }
 
@@ -65,7 +69,7 @@ module _ (laws : CommandLaws) (cwd : Names) (moment : ℕ) (dated : moment < 2 ^
     sound = λ act is can sound settled.
         let none = read_still StatusEnds at (present old) act is in
         still_sound none.0 act old new none.1 sound settled;
-    refused = λ act fault is ends may sound. read_refused StatusEnds IsSoundRefusal laws.seen at (present old) fault (Reaches act old new) act is ends sound;
+    refused = λ act fault is ends may sound. read_refused StatusEnds (λ root g fault. IsSoundRefusal fault) laws.seen at (present old) fault (Reaches act old new) act is ends sound;
     one = λ one two is other. read_has_one StatusEnds laws.status at (present old) one two is other;
   }
 
