@@ -188,8 +188,8 @@ CanKeep (Log at word) = Unit {0}
 CanKeep Help = Unit {0}
 CanKeep Version = Unit {0}
 
--- A fault of a command that works in a dataset, by the dataset's root: one of the command's, or that
--- there is no dataset.
+-- A fault of a command that works in a dataset, by the dataset's root: one of the command's, or
+-- that there is no dataset.
 abbrev pub IsFaultIn : Location → (Names → Type 0) → Option Names → Fault → Type 0
 IsFaultIn at IsIts None fault = fault ≡ no_root at
 IsFaultIn at IsIts (Some root) fault = IsIts root
