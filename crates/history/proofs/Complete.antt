@@ -1,12 +1,12 @@
 -- A log of a sound dataset is refused for nothing that the program itself has left there.
 use Rattle.std.proofs.Common.{◌≡◌, ◌⊎◌, inl, inr, ℕ, ◌≤◌, Bool, true, false, ◌&&◌, if◌then◌else◌, List, [], ◌∷◌, length, Option, Some, None, refl, sym, ap, ◌∙◌, subst, arith}
-use Rattle.std.specs.Prelude.{bytes_eq, codes, is_some, nat_eq, nat_le, nat_lt, option_map, slice_get}
+use Rattle.std.specs.Prelude.{bytes_eq, codes, nat_eq, nat_le, nat_lt}
 use Rattle.std.specs.Char.{is_ascii_hexdigit}
 use Rattle.std.specs.List.{All, list_all, starts_with}
 use Rattle.std.proofs.lemmas.Bool.{eq-eqb}
 use Rattle.std.proofs.lemmas.Bool.Decides.{nat_tests}
 use Rattle.std.proofs.lemmas.List.Elements.{All-head, All-tail}
-use Rattle.places.specs.All.{Ground, Names, file_at, longest, stands, text_of}
+use Rattle.places.specs.All.{Ground, Names, text_of}
 use Rattle.places.proofs.Texts.{and_both}
 use Rattle.faults.specs.declared.faults.Fault.{Fault}
 use Rattle.faults.specs.declared.faults.Fault.TheVariants.{Ambiguous, BadCommit, NoSuchRevision, TooLarge}
@@ -17,18 +17,17 @@ use Rattle.git_objects.specs.declared.objects.ObjKind.TheVariants.{Blob as BlobK
 use Rattle.git_objects.specs.declared.objects.ObjKind.TheVariants.{Tree as TreeKind}
 use Rattle.git_objects.specs.declared.objects.ObjKind.TheVariants.{Commit as CommitKind}
 use Rattle.git_objects.specs.declared.objects.ObjKind.TheVariants.{Tag as TagKind}
-use Rattle.repository.specs.All.{Head, branch_place, head_of, held_at, id_in, is_branch, large}
+use Rattle.repository.specs.All.{held_at, large}
 use Rattle.repository.specs.All.{object_limit, repo_of}
 use Rattle.object_store.specs.All.{IsCommitFault, begins_with, get_fault, is_kind, kind_fault}
 use Rattle.ref_store.specs.All.{AreHeld, Base, GoAlong, IsBase, IsBaseBy, IsDigitsBase, IsNamedBase}
 use Rattle.ref_store.specs.All.{IsOtherBase, IsRevision, Passed, Resolves, Unresolves}
-use Rattle.ref_store.specs.All.{branch_fault, branch_id, first_parent, given, has_branch, held_base}
-use Rattle.ref_store.specs.All.{is_hex, leads_by, leads_if, only_commit, fails_or, commit_only}
-use Rattle.ref_store.specs.All.{tip_fault, with_base}
+use Rattle.ref_store.specs.All.{first_parent, has_branch, held_base}
+use Rattle.ref_store.specs.All.{is_hex, only_commit, fails_or, commit_only}
+use Rattle.ref_store.specs.All.{with_base}
 use Rattle.ref_store.specs.Revisions.{Leads, Fails, Nowhere, baseless, formless, orphan, refused}
 use Rattle.ref_store.specs.Revisions.{too_far, unread as stopped}
-use Rattle.ref_store.proofs.Words.{one_reading}
-use Rattle.dataset.specs.All.{Has, IsLimit, IsLimitAtMost, IsReadable, IsSoundAt, IsWhole}
+use Rattle.dataset.specs.All.{IsLimit, IsLimitAtMost, IsReadable, IsSoundAt, IsWhole}
 use Rattle.dataset.proofs.Readable.{commit_kind_read, commit_read, readable}
 use Rattle.history.proofs.Standing.{IsSoundBase, behind, branch_sound, head_sound, log_limit}
 use Rattle.history.proofs.Standing.{way_limit}
