@@ -1,5 +1,5 @@
 -- A command that only reads a dataset: its act does nothing.
-use Rattle.std.proofs.Common.{◌≡◌, ◌⊎◌, inl, inr, Bool, IsTrue, ℕ, List, Option, Some, None, Result, Ok, Err, refl, sym, ◌∙◌, ap, subst}
+use Rattle.std.proofs.Common.{◌≡◌, inr, Bool, IsTrue, ℕ, List, Option, Some, None, Result, Ok, Err, refl, sym, ◌∙◌, ap, subst}
 use Rattle.places.specs.All.{Names, Ground}
 use Rattle.file_store.specs.All.{Drive, present}
 use Rattle.faults.specs.declared.lines.Line.{Line}

@@ -1,5 +1,5 @@
 -- A command keeps a sound ground sound, and is refused there for nothing that the program has left; it has one act.
-use Rattle.std.proofs.Common.{◌≡◌, ◌⊎◌, inl, inr, ℕ, ◌<◌, ◌^◌, false, List, [], Option, Some, None, refl, sym, ap, ◌∙◌, subst}
+use Rattle.std.proofs.Common.{◌≡◌, ℕ, ◌<◌, ◌^◌, false, List, [], Option, Some, None, refl, sym, ap, ◌∙◌, subst}
 use Rattle.places.specs.All.{Names, Ground, has_name}
 use Rattle.faults.specs.declared.faults.Fault.{Fault}
 use Rattle.faults.specs.declared.faults.Fault.TheVariants.{BadPath}

@@ -17,20 +17,17 @@ use Rattle.git_objects.specs.declared.objects.ObjKind.TheVariants.{Blob as BlobK
 use Rattle.git_objects.specs.declared.objects.ObjKind.TheVariants.{Tree as TreeKind}
 use Rattle.git_objects.specs.declared.objects.ObjKind.TheVariants.{Commit as CommitKind}
 use Rattle.git_objects.specs.declared.objects.ObjKind.TheVariants.{Tag as TagKind}
-use Rattle.repository.specs.All.{held_at, large}
-use Rattle.repository.specs.All.{object_limit, repo_of}
+use Rattle.repository.specs.All.{held_at, large, object_limit, repo_of}
 use Rattle.object_store.specs.All.{IsCommitFault, begins_with, get_fault, is_kind, kind_fault}
 use Rattle.ref_store.specs.All.{AreHeld, Base, GoAlong, IsBase, IsBaseBy, IsDigitsBase, IsNamedBase}
-use Rattle.ref_store.specs.All.{IsOtherBase, IsRevision, Passed, Resolves, Unresolves}
-use Rattle.ref_store.specs.All.{first_parent, has_branch, held_base}
-use Rattle.ref_store.specs.All.{is_hex, only_commit, fails_or, commit_only}
+use Rattle.ref_store.specs.All.{IsOtherBase, IsRevision, Passed, Resolves, Unresolves, commit_only}
+use Rattle.ref_store.specs.All.{fails_or, first_parent, has_branch, held_base, is_hex, only_commit}
 use Rattle.ref_store.specs.All.{with_base}
 use Rattle.ref_store.specs.Revisions.{Leads, Fails, Nowhere, baseless, formless, orphan, refused}
 use Rattle.ref_store.specs.Revisions.{too_far, unread as stopped}
 use Rattle.dataset.specs.All.{IsLimit, IsLimitAtMost, IsReadable, IsSoundAt, IsWhole}
 use Rattle.dataset.proofs.Readable.{commit_kind_read, commit_read, readable}
-use Rattle.history.proofs.Standing.{IsSoundBase, behind, branch_sound, head_sound, log_limit}
-use Rattle.history.proofs.Standing.{way_limit}
+use Rattle.history.proofs.Standing.{IsSoundBase, behind, branch_sound, head_sound, log_limit, way_limit}
 use Rattle.history.specs.Complete.{IsByDigits, IsSoundNoLog, LogIsComplete}
 use Rattle.history.specs.Logs.{IsNoLog, IsNoLogFrom, too_long, unlogged, unread, unresolved}
 
