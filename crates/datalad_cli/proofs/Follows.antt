@@ -9,12 +9,12 @@ use Rattle.recursive_save.specs.All.{CreateKeepsSound, SaveKeepsSound, SaveIsCom
 use Rattle.recursive_save.specs.All.{SaveKeeps}
 use Rattle.tree_status.specs.All.{IsSoundNoStatus, StatusEnds, StatusIsComplete, StatusIsOne}
 use Rattle.repository.specs.All.{repo_of}
-use Rattle.history.specs.All.{IsSoundNoLog, LogIsComplete, LogIsOne}
+use Rattle.history.specs.All.{LogIsComplete, LogIsOne, LogOfNameIsComplete}
 use Rattle.dl_words.specs.declared.words.Word.{Word}
 use Rattle.dl_words.specs.declared.words.Words.{Words}
 use Rattle.dl_words.specs.declared.words.Words.TheVariants as words
-use Rattle.datalad_cli.specs.Commands.{Command, Help, HasOneAct, IsActOf, IsSoundFault, Log}
-use Rattle.datalad_cli.specs.Commands.{LogComes, MayAnswer, StatusOf, Version, command_of}
+use Rattle.datalad_cli.specs.Commands.{Command, Help, HasOneAct, IsActOf, IsSoundFault}
+use Rattle.datalad_cli.specs.Commands.{IsSoundLogFault, Log, LogComes, MayAnswer, StatusOf, Version, command_of}
 use Rattle.datalad_cli.specs.Ends.{AtEachMoment, KeepsSound}
 use Rattle.datalad_cli.specs.Finding.{Location, location_by}
 use Rattle.datalad_cli.specs.Help.{help_text, version_text}
@@ -28,7 +28,7 @@ use Rattle.datalad_cli.proofs.Soundly.{create_sound, save_sound, save_refused, s
 pub record Follows (command : Command) (old new : Drive) : Type 0 where
   pub leaves : (act : Act (List ℕ)) → IsActOf command (present old) act → Moments act old new → AtEachMoment command act old new
   pub sound : (act : Act (List ℕ)) → IsActOf command (present old) act → KeepsSound command act old new
-  pub refused : (act : Act (List ℕ)) (fault : Fault) → IsActOf command (present old) act → EndsRefused act.ending fault (Reaches act old new) → MayAnswer true command fault → Sound (present old) → IsSoundFault command fault
+  pub refused : (act : Act (List ℕ)) (fault : Fault) → IsActOf command (present old) act → EndsRefused act.ending fault (Reaches act old new) → MayAnswer true command fault → Sound (present old) → IsSoundFault command (present old) fault
   pub one : HasOneAct command (present old)
 
 -- the laws of all commands
@@ -42,6 +42,7 @@ pub record CommandLaws : Type 0 where
   pub seen : StatusIsComplete
   pub logged : LogIsOne
   pub answers : LogIsComplete
+  pub named : LogOfNameIsComplete
 
 module _ (laws : CommandLaws) (cwd : Names) (moment : ℕ) (dated : moment < 2 ^ 64) (fresh : List ℕ) (old new : Drive) where
   log_follows : (at : Location) (word : List ℕ) → Follows (Log at word) old new
@@ -53,7 +54,10 @@ module _ (laws : CommandLaws) (cwd : Names) (moment : ℕ) (dated : moment < 2 ^
     sound = λ act is can sound settled.
         let none = read_still (LogComes word) at (present old) act is in
         still_sound none.0 act old new none.1 sound settled;
-    refused = λ act fault is ends may sound. read_refused (LogComes word) (IsSoundNoLog word) (λ root g own. laws.answers root word g own) at (present old) fault (Reaches act old new) act is ends sound;
+    refused = λ act fault is ends may sound.
+        read_refused (LogComes word) (λ root g fault. IsSoundLogFault word g root fault)
+        (λ root g fault sound dataset no. (laws.answers root word g fault sound dataset no, λ name. laws.named root word g fault sound dataset name no))
+        at (present old) fault (Reaches act old new) act is ends sound;
     one = λ one two is other. read_has_one (LogComes word) (λ root. laws.logged (repo_of root) word) at (present old) one two is other;
   }
 
@@ -66,7 +70,7 @@ module _ (laws : CommandLaws) (cwd : Names) (moment : ℕ) (dated : moment < 2 ^
     sound = λ act is can sound settled.
         let none = read_still StatusEnds at (present old) act is in
         still_sound none.0 act old new none.1 sound settled;
-    refused = λ act fault is ends may sound. read_refused StatusEnds IsSoundNoStatus laws.seen at (present old) fault (Reaches act old new) act is ends sound;
+    refused = λ act fault is ends may sound. read_refused StatusEnds (λ root g fault. IsSoundNoStatus fault) laws.seen at (present old) fault (Reaches act old new) act is ends sound;
     one = λ one two is other. read_has_one StatusEnds laws.status at (present old) one two is other;
   }
 

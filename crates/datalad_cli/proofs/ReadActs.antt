@@ -1,5 +1,5 @@
 -- A command that only reads a dataset: its act does nothing.
-use Rattle.std.proofs.Common.{◌≡◌, ◌⊎◌, inl, inr, Bool, IsTrue, ℕ, List, Option, Some, None, Result, Ok, Err, refl, sym, ◌∙◌, ap, subst}
+use Rattle.std.proofs.Common.{◌≡◌, inr, Bool, IsTrue, ℕ, List, Option, Some, None, Result, Ok, Err, refl, sym, ◌∙◌, ap, subst}
 use Rattle.places.specs.All.{Names, Ground}
 use Rattle.file_store.specs.All.{Drive, present}
 use Rattle.faults.specs.declared.lines.Line.{Line}
@@ -7,7 +7,7 @@ use Rattle.faults.specs.declared.faults.Fault.{Fault}
 use Rattle.faults.specs.declared.faults.Trouble.{Trouble}
 use Rattle.acts.specs.All.{Act, ActsAs, Ending, EndsRefused, Reads, Refuses, still}
 use Rattle.acts.proofs.As.{as_unread}
-use Rattle.datalad_cli.specs.Commands.{Comes, IsActIn, IsReadAct, MayIn, ending_by}
+use Rattle.datalad_cli.specs.Commands.{Comes, IsActIn, IsFaultIn, IsReadAct, MayIn, ending_by}
 use Rattle.datalad_cli.specs.Finding.{IsRootOf, Location, no_root, root_in}
 use Rattle.datalad_cli.proofs.Acting.{as_gives}
 use Rattle.datalad_cli.proofs.Nearest.{root_stands}
@@ -38,18 +38,18 @@ ending_refused : (ComesTo : Comes) (root : Names) (g : Ground) (end : Result (Li
 ending_refused ComesTo root g (Ok text) fault X ends h = absurd h
 ending_refused ComesTo root g (Err own) fault X ends h = subst (λ (f : Fault). ComesTo root g (Err f)) h.0 ends
 
-module _ (ComesTo : Comes) (IsSound : Fault → Type 0) (so : (root : Names) (g : Ground) (fault : Fault) → Sound g → IsDataset root g → ComesTo root g (Err fault) → IsSound fault)
+module _ (ComesTo : Comes) (IsSound : Names → Ground → Fault → Type 0) (so : (root : Names) (g : Ground) (fault : Fault) → Sound g → IsDataset root g → ComesTo root g (Err fault) → IsSound root g fault)
     (at : Location) (g : Ground) (fault : Fault) (X : Type 0) where
   refused_at : (o : Option Names) (act : Act (List ℕ)) → root_in at g ≡ o → IsActIn at (IsReadAct ComesTo g) o act → EndsRefused act.ending fault X → Sound g
-      → (fault ≡ no_root at) ⊎ IsSound fault
+      → IsFaultIn at (λ root. IsSound root g fault) o fault
   refused_at None act found is ends sound =
       let own = subst (λ (a : Act (List ℕ)). EndsRefused a.ending fault X) is ends in
-      inl (sym own.0)
+      sym own.0
   refused_at (Some root) act found is ends sound =
       let own = subst (λ (a : Act (List ℕ)). EndsRefused a.ending fault X) is.2 ends in
-      inr (so root g fault sound (root_stands g at root found) (ending_refused ComesTo root g is.0 fault X is.1 own))
+      so root g fault sound (root_stands g at root found) (ending_refused ComesTo root g is.0 fault X is.1 own)
 
-  pub read_refused : (act : Act (List ℕ)) → IsActIn at (IsReadAct ComesTo g) (root_in at g) act → EndsRefused act.ending fault X → Sound g → (fault ≡ no_root at) ⊎ IsSound fault
+  pub read_refused : (act : Act (List ℕ)) → IsActIn at (IsReadAct ComesTo g) (root_in at g) act → EndsRefused act.ending fault X → Sound g → IsFaultIn at (λ root. IsSound root g fault) (root_in at g) fault
   read_refused act is ends sound = refused_at (root_in at g) act refl is ends sound
 
 -- THE READING at the root that was found

@@ -1,5 +1,5 @@
 -- A command keeps a sound ground sound, and is refused there for nothing that the program has left; it has one act.
-use Rattle.std.proofs.Common.{◌≡◌, ◌⊎◌, inl, inr, ℕ, ◌<◌, ◌^◌, false, List, [], Option, Some, None, refl, sym, ap, ◌∙◌, subst}
+use Rattle.std.proofs.Common.{◌≡◌, ℕ, ◌<◌, ◌^◌, false, List, [], Option, Some, None, refl, sym, ap, ◌∙◌, subst}
 use Rattle.places.specs.All.{Names, Ground, has_name}
 use Rattle.faults.specs.declared.faults.Fault.{Fault}
 use Rattle.faults.specs.declared.faults.Fault.TheVariants.{BadPath}
@@ -10,8 +10,8 @@ use Rattle.acts.specs.All.{Act, Ending, Gives, Refuses, Breaks, EndsRefused, ref
 use Rattle.dataset.specs.All.{IsSettled, Sound, StaysSound}
 use Rattle.recursive_save.specs.All.{CreateKeepsSound, SaveKeepsSound, SaveIsComplete, SaveIsOne}
 use Rattle.recursive_save.specs.All.{new_dataset, create_step, IsSoundEnding, IsSoundRefusal}
-use Rattle.datalad_cli.specs.Commands.{Create, Save, HasOneAct, IsActIn, IsSaveAct, creates, ending_with}
-use Rattle.datalad_cli.specs.Commands.{wish_of, with_text}
+use Rattle.datalad_cli.specs.Commands.{Create, Save, HasOneAct, IsActIn, IsFaultIn, IsSaveAct, creates}
+use Rattle.datalad_cli.specs.Commands.{ending_with, wish_of, with_text}
 use Rattle.datalad_cli.specs.Ends.{KeepsSound}
 use Rattle.datalad_cli.specs.Finding.{Location, no_root, root_in}
 use Rattle.datalad_cli.proofs.Cuts.{cut_stays, step_stays, still_stays}
@@ -56,15 +56,15 @@ sound_refusal (Breaks own) fault X so h = subst IsSoundRefusal h so
 
 module _ (complete : SaveIsComplete) (at : Location) (message : List ℕ) (moment : ℕ) (g : Ground) (fault : Fault) (X : Type 0) where
   refused_at : (o : Option Names) (act : Act (List ℕ)) → root_in at g ≡ o → IsActIn at (IsSaveAct (wish_of message moment) g) o act → EndsRefused act.ending fault X → Sound g
-      → (fault ≡ no_root at) ⊎ IsSoundRefusal fault
+      → IsFaultIn at (λ root. IsSoundRefusal fault) o fault
   refused_at None act found is ends sound =
       let own = subst (λ (a : Act (List ℕ)). EndsRefused a.ending fault X) is ends in
-      inl (sym own.0)
+      sym own.0
   refused_at (Some root) act found is ends sound =
       let own = subst (λ (a : Act (List ℕ)). EndsRefused a.ending fault X) is.2 ends in
-      inr (sound_refusal (is.0).ending fault X (complete root (wish_of message moment) g is.0 sound (root_stands g at root found) is.1) own)
+      sound_refusal (is.0).ending fault X (complete root (wish_of message moment) g is.0 sound (root_stands g at root found) is.1) own
 
-  pub save_refused : (act : Act (List ℕ)) → IsActIn at (IsSaveAct (wish_of message moment) g) (root_in at g) act → EndsRefused act.ending fault X → Sound g → (fault ≡ no_root at) ⊎ IsSoundRefusal fault
+  pub save_refused : (act : Act (List ℕ)) → IsActIn at (IsSaveAct (wish_of message moment) g) (root_in at g) act → EndsRefused act.ending fault X → Sound g → IsFaultIn at (λ root. IsSoundRefusal fault) (root_in at g) fault
   save_refused act is ends sound = refused_at (root_in at g) act refl is ends sound
 
 -- ONE ACT

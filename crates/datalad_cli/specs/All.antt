@@ -5,8 +5,9 @@ pub use Rattle.datalad_cli.specs.Answered.{Answered}
 pub use Rattle.datalad_cli.specs.Codes.{code_of}
 pub use Rattle.datalad_cli.specs.Commands.{Asks, CanKeep, CarriesOut, Comes, Command, Create}
 pub use Rattle.datalad_cli.specs.Commands.{HasOneAct, HasOneReading, Help, IsActIn, IsActOf}
-pub use Rattle.datalad_cli.specs.Commands.{IsReadAct, IsReading, IsSaveAct, IsSoundFault, Leaves}
-pub use Rattle.datalad_cli.specs.Commands.{LeavesAt, Log, LogComes, MayAnswer, MayIn, MaySay}
+pub use Rattle.datalad_cli.specs.Commands.{IsFaultIn, IsReadAct, IsReading, IsSaveAct, IsSoundFault}
+pub use Rattle.datalad_cli.specs.Commands.{IsSoundLogFault, Leaves, LeavesAt, Log, LogComes}
+pub use Rattle.datalad_cli.specs.Commands.{MayAnswer, MayIn, MaySay}
 pub use Rattle.datalad_cli.specs.Commands.{Misread, Reading, Save, StatusOf, Version, command_of}
 pub use Rattle.datalad_cli.specs.Commands.{creates, ending_by, ending_with, wish_of, with_text}
 pub use Rattle.datalad_cli.specs.Decides.{CommandSays, EndsCutOff, EndsSaying, HasFault, MayEnd}

@@ -18,7 +18,7 @@ use Rattle.recursive_save.specs.All.{CreateRemains, IsSave, MaySave, SaveRemains
 use Rattle.recursive_save.specs.All.{dataset_line, IsSoundRefusal}
 use Rattle.tree_status.specs.All.{IsSoundNoStatus, IsStatusText, MayView, StatusEnds}
 use Rattle.recursive_save.specs.declared.wishes.SaveWish.{SaveWish}
-use Rattle.history.specs.All.{IsLogText, IsSoundNoLog, LogEnds, MayLog}
+use Rattle.history.specs.All.{IsLogLimit, IsLogText, IsSoundNoLog, IsStandingName, LogEnds, MayLog}
 use Rattle.dl_words.specs.All.{AskFor, EndsAt, is_built}
 use Rattle.dl_words.specs.declared.words.Words.{Words}
 use Rattle.dl_words.specs.declared.words.Words.TheVariants as words
@@ -188,15 +188,30 @@ CanKeep (Log at word) = Unit {0}
 CanKeep Help = Unit {0}
 CanKeep Version = Unit {0}
 
+-- A fault of a command that works in a dataset, by the dataset's root: one of the command's, or
+-- that there is no dataset.
+abbrev pub IsFaultIn : Location → (Names → Type 0) → Option Names → Fault → Type 0
+IsFaultIn at IsIts None fault = fault ≡ no_root at
+IsFaultIn at IsIts (Some root) fault = IsIts root
+
+-- The faults for which a log may be refused in a sound dataset: those of its word; and of a name
+-- that stands there a limit alone.
+abbrev pub IsSoundLogFault : List ℕ → Ground → Names → Fault → Type 0
+IsSoundLogFault word g root fault =
+    IsSoundNoLog word fault × (IsStandingName (repo_of root) word g → IsLogLimit fault)
+
 -- The faults for which a command may be refused on a sound ground.
-abbrev pub IsSoundFault : Command → Fault → Type 0
-IsSoundFault (Create dir at moment fresh) fault =
+abbrev pub IsSoundFault : Command → Ground → Fault → Type 0
+IsSoundFault (Create dir at moment fresh) g fault =
     MayAnswer true (Create dir at moment fresh) fault
-IsSoundFault (Save at message moment) fault = (fault ≡ no_root at) ⊎ IsSoundRefusal fault
-IsSoundFault (StatusOf at) fault = (fault ≡ no_root at) ⊎ IsSoundNoStatus fault
-IsSoundFault (Log at word) fault = (fault ≡ no_root at) ⊎ IsSoundNoLog word fault
-IsSoundFault Help fault = ⊥
-IsSoundFault Version fault = ⊥
+IsSoundFault (Save at message moment) g fault =
+    IsFaultIn at (λ root. IsSoundRefusal fault) (root_in at g) fault
+IsSoundFault (StatusOf at) g fault =
+    IsFaultIn at (λ root. IsSoundNoStatus fault) (root_in at g) fault
+IsSoundFault (Log at word) g fault =
+    IsFaultIn at (λ root. IsSoundLogFault word g root fault) (root_in at g) fault
+IsSoundFault Help g fault = ⊥
+IsSoundFault Version g fault = ⊥
 
 -- What the words of a call ask for: nothing, by the index of the first word that has no reading; or
 -- a command.

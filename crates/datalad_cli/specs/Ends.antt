@@ -123,7 +123,7 @@ KeepsSound command act old new =
 -- From a sound ground a command is refused for nothing that the program itself has left there.
 abbrev pub RefusesSoundly : Command → Ground → Status → Type 0
 RefusesSoundly command g Done = Unit {0}
-RefusesSoundly command g (Refused fault) = Sound g → IsSoundFault command fault
+RefusesSoundly command g (Refused fault) = Sound g → IsSoundFault command g fault
 RefusesSoundly command g Device = Unit {0}
 RefusesSoundly command g NoMemory = Unit {0}
 RefusesSoundly command g (Usage at) = ⊥

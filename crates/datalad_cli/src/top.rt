@@ -3,7 +3,7 @@ ghost use Rattle.std.specs.Prelude.{◌≡◌, ℕ, List, [], map, string_bytes}
 ghost use Rattle.acts.specs.All.{Acts};
 ghost use Rattle.recursive_save.specs.All.{CreateKeepsSound, SaveIsComplete, SaveIsOne, SaveKeeps, SaveKeepsSound};
 ghost use Rattle.tree_status.specs.All.{StatusIsComplete, StatusIsOne};
-ghost use Rattle.history.specs.All.{LogIsComplete, LogIsOne};
+ghost use Rattle.history.specs.All.{LogIsComplete, LogIsOne, LogOfNameIsComplete};
 ghost use Rattle.dl_words.specs.All.{AskFor, AskOnce, EndsOnce, HaveMeaning};
 ghost use Rattle.datalad_cli.specs.Answer.{call_of};
 ghost use Rattle.datalad_cli.specs.Answered.{Answered};
@@ -21,7 +21,7 @@ use crate::words::{message_by, revision_by, root_of};
 use dl_words::{Word, Words, WordsErr, ends_once, have_meaning, is_built, one_meaning, read_words};
 use faults::{Line, Trouble};
 use file_store::{Bytes, Files, Place, Sink};
-use history::{log, log_is_complete, log_is_one};
+use history::{log, log_is_complete, log_is_one, log_of_name_is_complete};
 use recursive_save::{
     SaveWish, create, create_keeps_sound, save, save_is_complete, save_is_one, save_keeps_sound,
     save_remains,
@@ -164,6 +164,7 @@ fn laws(alloc: Global)
     ensures seen { StatusIsComplete }
     ensures logged { LogIsOne }
     ensures answers { LogIsComplete }
+    ensures named { LogOfNameIsComplete }
     ensures asked { AskOnce }
     ensures ended { EndsOnce }
     ensures meant { HaveMeaning }
@@ -177,6 +178,7 @@ fn laws(alloc: Global)
     status_is_complete();
     log_is_one();
     log_is_complete();
+    log_of_name_is_complete();
     one_meaning();
     ends_once();
     have_meaning();

@@ -1,15 +1,15 @@
 -- A log of a sound dataset is refused for nothing that the program itself has left there.
 use Rattle.std.proofs.Common.{◌≡◌, ◌⊎◌, inl, inr, ℕ, ◌≤◌, Bool, true, false, ◌&&◌, if◌then◌else◌, List, [], ◌∷◌, length, Option, Some, None, refl, sym, ap, ◌∙◌, subst, arith}
-use Rattle.std.specs.Prelude.{bytes_eq, codes, is_some, nat_eq, nat_le, nat_lt, option_map, slice_get}
+use Rattle.std.specs.Prelude.{bytes_eq, codes, nat_eq, nat_le, nat_lt}
 use Rattle.std.specs.Char.{is_ascii_hexdigit}
 use Rattle.std.specs.List.{All, list_all, starts_with}
 use Rattle.std.proofs.lemmas.Bool.{eq-eqb}
 use Rattle.std.proofs.lemmas.Bool.Decides.{nat_tests}
 use Rattle.std.proofs.lemmas.List.Elements.{All-head, All-tail}
-use Rattle.places.specs.All.{Ground, Names, file_at, longest, stands, text_of}
+use Rattle.places.specs.All.{Ground, Names, text_of}
 use Rattle.places.proofs.Texts.{and_both}
 use Rattle.faults.specs.declared.faults.Fault.{Fault}
-use Rattle.faults.specs.declared.faults.Fault.TheVariants.{Ambiguous, BadCommit, TooLarge}
+use Rattle.faults.specs.declared.faults.Fault.TheVariants.{Ambiguous, BadCommit, NoSuchRevision, TooLarge}
 use Rattle.git_objects.specs.All.{IsId, Object, hex_of, lowered}
 use Rattle.git_objects.specs.declared.ids.Id.{Id}
 use Rattle.git_objects.specs.declared.objects.ObjKind.{ObjKind}
@@ -17,19 +17,17 @@ use Rattle.git_objects.specs.declared.objects.ObjKind.TheVariants.{Blob as BlobK
 use Rattle.git_objects.specs.declared.objects.ObjKind.TheVariants.{Tree as TreeKind}
 use Rattle.git_objects.specs.declared.objects.ObjKind.TheVariants.{Commit as CommitKind}
 use Rattle.git_objects.specs.declared.objects.ObjKind.TheVariants.{Tag as TagKind}
-use Rattle.repository.specs.All.{Head, branch_place, head_of, held_at, id_in, is_branch, large}
-use Rattle.repository.specs.All.{object_limit, repo_of}
+use Rattle.repository.specs.All.{held_at, large, object_limit, repo_of}
 use Rattle.object_store.specs.All.{IsCommitFault, begins_with, get_fault, is_kind, kind_fault}
 use Rattle.ref_store.specs.All.{AreHeld, Base, GoAlong, IsBase, IsBaseBy, IsDigitsBase, IsNamedBase}
-use Rattle.ref_store.specs.All.{IsOtherBase, IsRevision, Passed, Resolves, Unresolves}
-use Rattle.ref_store.specs.All.{branch_fault, branch_id, first_parent, given, has_branch, held_base}
-use Rattle.ref_store.specs.All.{is_hex, leads_by, leads_if, only_commit, fails_or, commit_only}
-use Rattle.ref_store.specs.All.{tip_fault, with_base}
+use Rattle.ref_store.specs.All.{IsOtherBase, IsRevision, Passed, Resolves, Unresolves, commit_only}
+use Rattle.ref_store.specs.All.{fails_or, first_parent, has_branch, held_base, is_hex, only_commit}
+use Rattle.ref_store.specs.All.{with_base}
 use Rattle.ref_store.specs.Revisions.{Leads, Fails, Nowhere, baseless, formless, orphan, refused}
 use Rattle.ref_store.specs.Revisions.{too_far, unread as stopped}
-use Rattle.ref_store.proofs.Words.{one_reading}
-use Rattle.dataset.specs.All.{Has, IsLimit, IsLimitAtMost, IsReadable, IsSoundAt, IsWhole}
+use Rattle.dataset.specs.All.{IsLimit, IsLimitAtMost, IsReadable, IsSoundAt, IsWhole}
 use Rattle.dataset.proofs.Readable.{commit_kind_read, commit_read, readable}
+use Rattle.history.proofs.Standing.{IsSoundBase, behind, branch_sound, head_sound, log_limit, way_limit}
 use Rattle.history.specs.Complete.{IsByDigits, IsSoundNoLog, LogIsComplete}
 use Rattle.history.specs.Logs.{IsNoLog, IsNoLogFrom, too_long, unlogged, unread, unresolved}
 
@@ -77,14 +75,6 @@ leads_kind TagKind id start e = absurd (cc e)
 no_kind_fails : (is : Bool) (id : List ℕ) (fault : Fault) → (if is then Leads id else Nowhere) ≡ Fails fault → ⊥
 no_kind_fails true id fault e = absurd (cc e)
 no_kind_fails false id fault e = absurd (cc e)
-
--- ---- HEAD as a word
-head_word : (word : List ℕ) → word ≡ codes "HEAD" → IsRevision word (codes "HEAD") 0
-head_word word is = record { backs = []; plain = refl; text = is; counted = refl }
-
--- what a word that is HEAD has been read as
-head_read : (word base : List ℕ) (count : ℕ) → IsRevision word base count → word ≡ codes "HEAD" → (base ≡ codes "HEAD") × (count ≡ 0)
-head_read word base count is head = one_reading word base (codes "HEAD") count 0 is (head_word word head)
 
 module _ (root : Names) (g : Ground) (at : IsSoundAt root g) (word : List ℕ) where
   abbrev repo : Names
@@ -187,37 +177,6 @@ module _ (root : Names) (g : Ground) (at : IsSoundAt root g) (word : List ℕ) w
     abbrev IsLed : List ℕ → Type 0
     IsLed start = IsWhole repo start g ⊎ (IsByDigits word start × IsCommitHeld start)
 
-    head_leads : (f : Option Fault) (o : Option Head) (start : List ℕ) → o ≡ Some at.heads.head → Leads start ≡ fails_or f (leads_by o) → IsWhole repo start g
-    head_leads (Some fault) o start is e = absurd (cc e)
-    head_leads None o start is e =
-        let same : start ≡ at.heads.head.id = same_id start at.heads.head.id (e ∙ ap leads_by is) in
-        subst (λ (i : List ℕ). IsWhole repo i g) (sym same) at.heads.whole
-
-    -- the parts of a branch that stands
-    stands_named : (named short there : Bool) → (named && short && there) ≡ true → (named ≡ true) × (there ≡ true)
-    stands_named true true there h = (refl, h)
-    stands_named true false there h = absurd (cc h)
-    stands_named false short there h = absurd (cc h)
-
-    branch_parts : has_branch repo base g ≡ true → (is_branch base ≡ true) × (stands g (branch_place repo base) ≡ true)
-    branch_parts is = stands_named (is_branch base) (nat_le (length (text_of (branch_place repo base))) longest) (stands g (branch_place repo base)) is
-
-    branch_leads : (start : List ℕ) → has_branch repo base g ≡ true → Leads start ≡ fails_or (branch_fault repo base g) (leads_if (branch_id repo base g)) → IsWhole repo start g
-    branch_leads start is e =
-        let parts = branch_parts is in
-        by_file (file_at g (branch_place repo base)) refl parts.0 parts.1
-      where
-        by_fault : (f : Option Fault) (tip : List ℕ) → branch_id repo base g ≡ Some tip → Leads start ≡ fails_or f (leads_if (branch_id repo base g)) → start ≡ tip
-        by_fault (Some fault) tip leads k = absurd (cc k)
-        by_fault None tip leads k = same_id start tip (k ∙ ap leads_if leads)
-
-        by_file : (file : Option (List ℕ)) → file_at g (branch_place repo base) ≡ file → is_branch base ≡ true → is_some file ≡ true → IsWhole repo start g
-        by_file None there named h = absurd (cc h)
-        by_file (Some text) there named h =
-            let tip = at.heads.branches base text named there in
-            let same : start ≡ tip.0 = by_fault (branch_fault repo base g) tip.0 (ap (given id_in) there ∙ tip.1) e in
-            subst (λ (i : List ℕ). IsWhole repo i g) (sym same) tip.2
-
     digits_lead : (start : List ℕ) (hex : Bool) → is_hex 4 39 base ≡ hex → IsDigitsBase repo word base g hex (Leads start) → IsLed start
     digits_lead start true is (inl (fault, large_place, e)) = absurd (cc e)
     digits_lead start true is (inr (ids, own, are, e)) =
@@ -226,7 +185,7 @@ module _ (root : Names) (g : Ground) (at : IsSoundAt root g) (word : List ℕ) w
     digits_lead start false is e = absurd (cc e)
 
     name_leads : (start : List ℕ) (there : Bool) → has_branch repo base g ≡ there → IsNamedBase repo word base g there (Leads start) → IsLed start
-    name_leads start true is e = inl (branch_leads start is e)
+    name_leads start true is e = inl (subst (IsSoundBase repo g) (sym e) (branch_sound root g at base is))
     name_leads start false is h = digits_lead start (is_hex 4 39 base) refl h
 
     other_leads : (start : List ℕ) (hex : Bool) → is_hex 40 40 base ≡ hex → IsOtherBase repo word base g hex (Leads start) → IsLed start
@@ -240,23 +199,10 @@ module _ (root : Names) (g : Ground) (at : IsSoundAt root g) (word : List ℕ) w
     base_leads start h = by (bytes_eq base (codes "HEAD")) h
       where
         by : (head : Bool) → IsBaseBy repo word base g head (Leads start) → IsLed start
-        by true e = inl (head_leads (tip_fault repo g) (head_of g repo) start at.heads.leads e)
+        by true e = inl (subst (IsSoundBase repo g) (sym e) (head_sound root g at))
         by false k = other_leads start (is_hex 40 40 base) refl k
 
-    -- why a base is refused
-    fails_by : (o : Option Fault) (b : Base) (fault : Fault) → ((other : Fault) → b ≡ Fails other → ⊥) → IsLimitAtMost o → Fails fault ≡ fails_or o b → IsSoundNoLog word fault
-    fails_by (Some refusal) b fault never h e = limit fault (subst IsLimit (sym (same_fault fault refusal e)) h)
-    fails_by None b fault never h e = absurd (never fault (sym e))
-
-    no_head_fails : (o : Option Head) (fault : Fault) → leads_by o ≡ Fails fault → ⊥
-    no_head_fails None fault e = absurd (cc e)
-    no_head_fails (Some head) fault e = absurd (cc e)
-
-    no_id_fails : (o : Option (List ℕ)) (fault : Fault) → leads_if o ≡ Fails fault → ⊥
-    no_id_fails None fault e = absurd (cc e)
-    no_id_fails (Some id) fault e = absurd (cc e)
-
-    -- a repository's place may be too long
+    -- why a base is refused; a repository's place may be too long
     long_sound : (long : Bool) (fault : Fault) → (if long then large repo else None) ≡ Some fault → IsSoundNoLog word fault
     long_sound true fault e = limits (large repo) fault tt e
     long_sound false fault e = absurd (cc e)
@@ -268,9 +214,7 @@ module _ (root : Names) (g : Ground) (at : IsSoundAt root g) (word : List ℕ) w
     digits_fail fault false is e = absurd (cc e)
 
     name_fails : (fault : Fault) (there : Bool) → has_branch repo base g ≡ there → IsNamedBase repo word base g there (Fails fault) → IsSoundNoLog word fault
-    name_fails fault true is e =
-        let parts = branch_parts is in
-        fails_by (branch_fault repo base g) (leads_if (branch_id repo base g)) fault (no_id_fails (branch_id repo base g)) (reads.branches base parts.0 parts.1) e
+    name_fails fault true is e = limit fault (subst (IsSoundBase repo g) (sym e) (branch_sound root g at base is))
     name_fails fault false is h = digits_fail fault (is_hex 4 39 base) refl h
 
     other_fails : (fault : Fault) (hex : Bool) → IsOtherBase repo word base g hex (Fails fault) → IsSoundNoLog word fault
@@ -281,39 +225,17 @@ module _ (root : Names) (g : Ground) (at : IsSoundAt root g) (word : List ℕ) w
     base_fails fault h = by (bytes_eq base (codes "HEAD")) h
       where
         by : (head : Bool) → IsBaseBy repo word base g head (Fails fault) → IsSoundNoLog word fault
-        by true e = fails_by (tip_fault repo g) (leads_by (head_of g repo)) fault (no_head_fails (head_of g repo)) reads.tip e
+        by true e = limit fault (subst (IsSoundBase repo g) (sym e) (head_sound root g at))
         by false k = other_fails fault (is_hex 40 40 base) k
 
-  -- HEAD leads somewhere
-  head_is_there : IsBase repo word (codes "HEAD") g Nowhere → ⊥
-  head_is_there e = by (tip_fault repo g) (e ∙ ap (λ (o : Option Head). fails_or (tip_fault repo g) (leads_by o)) at.heads.leads)
-    where
-      by : (f : Option Fault) → Nowhere ≡ fails_or f (Leads at.heads.head.id) → ⊥
-      by None k = absurd (cc k)
-      by (Some fault) k = absurd (cc k)
-
   -- ---- ways
-  parent_whole : (parents : List Id) (id : List ℕ) → ((p : Id) → Has parents p → IsWhole repo p.0 g) → option_map (λ (p : Id). p.0) (slice_get parents 0) ≡ Some id → IsWhole repo id g
-  parent_whole [] id whole e = absurd (cc e)
-  parent_whole (p ∷ parents) id whole e =
-      let same : p.0 ≡ id = cc e in
-      subst (λ (i : List ℕ). IsWhole repo i g) same (whole p (inl refl))
-
-  -- a way of held commits comes to a whole one, where it has set out
-  way_whole : (from : Option (List ℕ)) (way : List Passed) (next : List ℕ) → ((id : List ℕ) → from ≡ Some id → IsWhole repo id g) → GoAlong from way (Some next) → AreHeld repo g way → IsWhole repo next g
-  way_whole from [] next whole e held = whole next e
-  way_whole None (c ∷ way) next whole h held = absurd h
-  way_whole (Some id) (c ∷ way) next whole h held =
-      way_whole (first_parent c.fields) way next (λ p e. parent_whole c.fields.parents p (at.objects.parents c.id c.fields held.0.commit) e) h.1 held.1
-
-  -- what can't be read on a way is past a limit, unless it is where the way begins
+  -- what can't be read on one is past a limit, unless it is where it begins
   way_fails : (start next : List ℕ) (way : List Passed) (fault : Fault) → ((other : Fault) → IsCommitFault repo start g other → IsSoundNoLog word other)
       → GoAlong (Some start) way (Some next) → AreHeld repo g way → IsCommitFault repo next g fault → IsSoundNoLog word fault
   way_fails start next [] fault first e held fails =
       first fault (subst (λ (i : List ℕ). IsCommitFault repo i g fault) (same_next start next e) fails)
   way_fails start next (c ∷ way) fault first h held fails =
-      limit fault (reads.commits next fault
-      (way_whole (first_parent c.fields) way next (λ p e. parent_whole c.fields.parents p (at.objects.parents c.id c.fields held.0.commit) e) h.1 held.1) fails)
+      limit fault (way_limit root g at (first_parent c.fields) way next fault (behind root g at c held.0) h.1 held.1 fails)
 
   -- where it begins with what the word's digits give
   digits_way : (start : List ℕ) (fault : Fault) → IsByDigits word start → IsCommitHeld start → IsCommitFault repo start g fault → IsSoundNoLog word fault
@@ -325,24 +247,18 @@ module _ (root : Names) (g : Ground) (at : IsSoundAt root g) (word : List ℕ) w
   led_fails start fault (inr (named, held)) fails = digits_way start fault named held fails
 
   -- ---- the word
-  no_way : (start : List ℕ) (way : List Passed) → GoAlong (Some start) way None → length way ≤ 0 → ⊥
-  no_way start [] e few =
-      let none : Some start ≡ None = e in
-      absurd (cc none)
-  no_way start (c ∷ way) h few = absurd (omega arith)
+  -- HEAD leads somewhere
+  not_head : Unresolves repo word g (NoSuchRevision word) → word ≡ codes "HEAD" → ⊥
+  not_head fails is = log_limit root g at word (inl is) (NoSuchRevision word) (unresolved (NoSuchRevision word) fails)
 
   word_fails : (fault : Fault) → Unresolves repo word g fault → IsSoundNoLog word fault
-  word_fails _ (formless never) = λ is. never (codes "HEAD") 0 (head_word word is)
-  word_fails _ (baseless base count revision found) = λ is.
-      let base_is = (head_read word base count revision is).0 in
-      head_is_there (subst (λ (b : List ℕ). IsBase repo word b g Nowhere) base_is found)
+  word_fails _ (formless never) = not_head (formless never)
+  word_fails _ (baseless base count revision found) = not_head (baseless base count revision found)
   word_fails fault (refused base count _ revision found) = base_fails base count revision fault found
   word_fails _ (too_far base count start revision found more) = tt
   word_fails fault (stopped start count way next _ out along few held fails) =
       way_fails start next way fault (λ other first. led_fails start other (base_leads out.base count out.revision start out.found) first) along held fails
-  word_fails _ (orphan start count way out along few held) = λ is.
-      let none = (head_read word out.base count out.revision is).1 in
-      no_way start way along (subst (λ (n : ℕ). length way ≤ n) none few)
+  word_fails _ (orphan start count way out along few held) = not_head (orphan start count way out along few held)
 
   -- ---- the log
   log_fails : (start : List ℕ) (fault : Fault) → Resolves repo word g start → IsNoLogFrom repo start g fault → IsSoundNoLog word fault

@@ -1,4 +1,5 @@
 pub mod Complete
 pub mod Going
 pub mod Once
+pub mod Standing
 pub mod Titles

@@ -1,5 +1,5 @@
 -- What the log of a sound dataset may be refused for.
-use Rattle.std.specs.Prelude.{◌≡◌, ℕ, true, List, codes}
+use Rattle.std.specs.Prelude.{◌≡◌, ◌⊎◌, ℕ, true, false, List, codes}
 use Rattle.places.specs.All.{Names, Ground}
 use Rattle.faults.specs.declared.faults.Fault.{Fault}
 use Rattle.faults.specs.declared.faults.Fault.TheVariants.{Ambiguous, BadCommit, NoSuchRevision}
@@ -7,8 +7,8 @@ use Rattle.faults.specs.declared.faults.Fault.TheVariants.{TooLarge, TooLong}
 use Rattle.git_objects.specs.All.{lowered}
 use Rattle.repository.specs.All.{repo_of}
 use Rattle.object_store.specs.All.{begins_with}
-use Rattle.ref_store.specs.All.{IsRevision, is_hex}
-use Rattle.dataset.specs.All.{IsDataset, Sound}
+use Rattle.ref_store.specs.All.{IsRevision, has_branch, is_hex}
+use Rattle.dataset.specs.All.{IsDataset, IsLimit, Sound}
 use Rattle.history.specs.Logs.{IsNoLog}
 
 -- The base of a revision word is an id's 40 digits, or the first 4 to 39 of them, in either case.
@@ -38,3 +38,22 @@ abbrev pub LogIsComplete : Type 0
 LogIsComplete =
     (root : Names) (word : List ℕ) (g : Ground) (fault : Fault) → Sound g → IsDataset root g
     → IsNoLog (repo_of root) word g fault → IsSoundNoLog word fault
+
+-- A word that names what stands: HEAD, or a branch; 40 hexadecimal digits are an id, also where a
+-- branch has that name.
+abbrev pub IsStandingName : Names → List ℕ → Ground → Type 0
+IsStandingName repo word g =
+    (word ≡ codes "HEAD") ⊎ ((is_hex 40 40 word ≡ false) × (has_branch repo word g ≡ true))
+
+-- A limit of logs is passed: that of sizes, or that of the commits of one log.
+abbrev pub IsLogLimit : Fault → Type 0
+IsLogLimit (TooLong commit) = Unit {0}
+IsLogLimit fault = IsLimit fault
+
+-- In a sound dataset the log of a name that stands is refused for a limit alone: never as that of a
+-- word that leads to no commit or to several, nor for a commit that is missing, damaged or out of
+-- form.
+abbrev pub LogOfNameIsComplete : Type 0
+LogOfNameIsComplete =
+    (root : Names) (word : List ℕ) (g : Ground) (fault : Fault) → Sound g → IsDataset root g
+    → IsStandingName (repo_of root) word g → IsNoLog (repo_of root) word g fault → IsLogLimit fault

@@ -1,5 +1,5 @@
 // What follows of a log.
-ghost use Rattle.history.specs.Complete.{LogIsComplete};
+ghost use Rattle.history.specs.Complete.{LogIsComplete, LogOfNameIsComplete};
 ghost use Rattle.history.specs.Logs.{LogIsOne};
 
 use git_objects::texts_have_one_reading;
@@ -17,4 +17,10 @@ pub fn log_is_one()
 /// itself has left there.
 pub fn log_is_complete()
     ensures { LogIsComplete }
+{}
+
+/// On a sound ground the log of HEAD, or of a branch that stands, is refused for a limit alone. Of a branch whose name
+/// is 40 hexadecimal digits it says nothing, since these are an id.
+pub fn log_of_name_is_complete()
+    ensures { LogOfNameIsComplete }
 {}

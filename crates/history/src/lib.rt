@@ -6,5 +6,5 @@ mod logs;
 #[cfg(test)]
 mod tests;
 
-pub use laws::{log_is_complete, log_is_one};
+pub use laws::{log_is_complete, log_is_one, log_of_name_is_complete};
 pub use logs::log;

@@ -34,6 +34,7 @@ returns g c = λ words ask.
       seen = c.laws.ensures.seen;
       logged = c.laws.ensures.logged;
       answers = c.laws.ensures.answers;
+      named = c.laws.ensures.named;
     } in
     let printed : ReportEnds t.heard lines c.act-outcome.result old.tapes new.tapes c.report.result =
     subst (λ (ls : List Line). ReportEnds t.heard ls c.act-outcome.result old.tapes new.tapes c.report.result) c.as_slice.ensures.value c.report.ensures.ends in

@@ -24,6 +24,7 @@ returns-in-Err-NoMemory g c =
       seen = c.laws.ensures.seen;
       logged = c.laws.ensures.logged;
       answers = c.laws.ensures.answers;
+      named = c.laws.ensures.named;
     } in
     subst (λ (s : Status). Answered t call (world_of d o (g.E.Sink.tape c.args.err.now)) (world_of d o (g.E.Sink.tape c.starved.new.sink)) s) (sym c.starved.ensures.status)
     (starved_early t call d o (g.E.Sink.tape c.args.err.now) (g.E.Sink.tape c.starved.new.sink) (one_reading c.laws.ensures.asked c.laws.ensures.ended call)
