@@ -1,5 +1,5 @@
 -- Which logs are sound in another ground.
-use Rattle.std.proofs.Common.{◌≡◌, ℕ, List, [], Option, None, refl, sym, ◌∙◌, subst}
+use Rattle.std.proofs.Common.{◌≡◌, ℕ, List, [], Option, None, refl, sym, ◌∙◌, subst, arith}
 use Rattle.places.specs.All.{Names, Ground, file_at}
 use Rattle.annex_keys.specs.All.{IsKey, PlainKey}
 use Rattle.location_log.specs.All.{IsPresent, PlainLine}
@@ -27,7 +27,7 @@ module _ (root : Names) (a b : Ground) (settings : file_at b (settings_place roo
   }
 
 none_present : (uuid : List ℕ) → IsPresent [] uuid → ⊥
-none_present uuid present = present.counts.within
+none_present uuid present = let below = present.counts.within.1 in absurd (omega (arith, below))
 
 -- where no log stands, none is unsound
 pub no_logs : (root : Names) (g : Ground) → ((key : PlainKey) → file_at g (log_place (repo_of root) key) ≡ None) → HasSoundLogs root g
