@@ -7,14 +7,14 @@ use Rattle.git_objects.specs.All.{hex_of}
 use Rattle.annex_keys.specs.All.{IsKey, Matches, PlainKey}
 use Rattle.location_log.specs.All.{IsPresent, PlainLine}
 use Rattle.location_log.proofs.Logs.{one_reading}
-use Rattle.file_store.specs.All.{Round, changed, with_file}
+use Rattle.file_store.specs.All.{Round, changed}
 use Rattle.file_store.proofs.Rounds.{with_file_same, with_file_other}
 use Rattle.repository.specs.All.{head_place, object_names, object_place, repo_of, settings_place}
 use Rattle.annex_store.specs.All.{IsLogIn, Stands, content_names, content_place, log_names, log_place}
 use Rattle.dataset.specs.Watched.{IsRoot, IsWatched}
 use Rattle.dataset.specs.Sound.{HasSoundLogs, HasUuid, HoldsAll, SameHeads, Sound}
 use Rattle.dataset.specs.Rounds.{LiesWatched, IsIntact}
-use Rattle.dataset.specs.Contents.{ContentsKeep, EachChange, HoldsContents, IsContentPut, IsLogSet, KeepsContents, LogsKeep}
+use Rattle.dataset.specs.Contents.{ContentsKeep, EachChange, HoldsContents, IsContentPut, IsLogSet, LogsKeep}
 use Rattle.dataset.proofs.Splits.{is_watched_name, head_is_watched, object_watched, settings_watched, split_once, watched_at}
 use Rattle.dataset.proofs.KeyPlaces.{content_no_head, content_once, content_watched, is_annex_name, log_no_content, log_no_head, log_once, log_watched}
 use Rattle.dataset.proofs.Logs.{logs_as, stands_as, uuid_before}
