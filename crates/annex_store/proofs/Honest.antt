@@ -59,13 +59,13 @@ module _ (kind dir next name : List ℕ) (other : bytes_eq kind dlrepo ≡ false
   below_firm [] = names_firm
   below_firm (x ∷ root) = (λ i. (bytes_eq x dlrepo && not_below root kind (dir ∷ next ∷ name ∷ []) i) || below_firm root i) ∙ ap (λ b. b || false) (and_none (bytes_eq x dlrepo))
 
-content_firm : (repo : Names) (key : PlainKey) → is_tmp (content_place repo key) ≡ false
+pub content_firm : (repo : Names) (key : PlainKey) → is_tmp (content_place repo key) ≡ false
 content_firm repo key = ap (λ (z : Names). is_tmp (repo ++ codes "annex" ∷ codes "objects" ∷ (z ++ key_text key ∷ []))) (dir_pieces key) ∙ below_firm (codes "objects") _ _ (key_text key) refl (first_dir key).size repo
 
-log_firm : (repo : Names) (key : PlainKey) → is_tmp (log_place repo key) ≡ false
+pub log_firm : (repo : Names) (key : PlainKey) → is_tmp (log_place repo key) ≡ false
 log_firm repo key = ap (λ (z : Names). is_tmp (repo ++ codes "annex" ∷ codes "logs" ∷ (z ++ log_name key ∷ []))) (dir_pieces key) ∙ below_firm (codes "logs") _ _ (log_name key) refl (first_dir key).size repo
 
-places_differ : (repo : Names) (key : PlainKey) → log_place repo key ≢ content_place repo key
+pub places_differ : (repo : Names) (key : PlainKey) → log_place repo key ≢ content_place repo key
 places_differ repo key e =
     let rest : log_names key ≡ content_names key = same_rest repo (log_names key) (content_names key) e in
     cc rest

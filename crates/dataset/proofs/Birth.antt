@@ -15,6 +15,7 @@ use Rattle.repository.specs.All.{object_place}
 use Rattle.repository.proofs.Holds.{held_is}
 use Rattle.object_store.specs.All.{with_objects}
 use Rattle.object_store.specs.declared.objects.NewObject.{NewObject}
+use Rattle.annex_store.specs.All.{log_names}
 use Rattle.dataset.specs.Watched.{IsRoot, IsWatched}
 use Rattle.dataset.specs.Whole.{Has, IsWhole}
 use Rattle.dataset.specs.Sound.{HasSoundObjects, IsSoundAt, Sound, HoldsAll}
@@ -23,6 +24,8 @@ use Rattle.dataset.specs.Births.{bare_round, birth_rounds, IsBirth, IsBorn}
 use Rattle.dataset.proofs.Splits.{head_names, is_head_name, AreBare, no_head_at, split_once, is_watched_name, watched_at, head_is_watched, head_watched, object_watched, settings_watched, tmp_watched, branch_plain, branch_watched}
 use Rattle.repository.proofs.HeadTexts.{id_in-text}
 use Rattle.dataset.proofs.Heading.{now_named}
+use Rattle.dataset.proofs.KeyPlaces.{log_watched}
+use Rattle.dataset.proofs.Logs.{no_logs}
 use Rattle.dataset.proofs.Wholes.{whole_stays, whole_is_id}
 use Rattle.dataset.proofs.Watching.{is_object_name, SameRest, head_as, grown, held_in, objects_as}
 use Rattle.dataset.proofs.Putting.{objects_keep, put_rest, put_objects, after_some}
@@ -228,6 +231,7 @@ module _ (root : Names) (objects : List NewObject) (work : Round) (settings name
       stands = third_other root (codes "config" ∷ []) birth.outside refl ∙ second_settings (settings_place root) (watched_at root (codes "config" ∷ []) birth.outside settings_watched) refl;
       valid = birth.valid;
     };
+    logs = no_logs root third (λ key. third_first (log_names key) (log_watched key) refl refl refl ∙ first_none (log_names key) (log_watched key) refl);
     tmp = λ names firm.
         let watched = tmp_watched root names birth.outside firm in
         third_first (codes "tmp" ∷ names) watched refl refl refl ∙ first_none (codes "tmp" ∷ names) watched refl;

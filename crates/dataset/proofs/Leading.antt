@@ -7,15 +7,18 @@ use Rattle.places.proofs.Grounds.{cases_place, file_at-insert_same, file_at-inse
 use Rattle.git_objects.specs.All.{IsId, hex_of}
 use Rattle.repository.specs.All.{Head, head_in, head_of, id_in, id_text, is_branch, repo_of}
 use Rattle.repository.specs.All.{head_place, branch_place, object_names, object_place}
+use Rattle.repository.specs.All.{settings_place}
+use Rattle.annex_store.specs.All.{content_names, content_place, log_names, log_place}
 use Rattle.dataset.specs.Watched.{IsRoot}
 use Rattle.dataset.specs.Whole.{IsWhole}
-use Rattle.dataset.specs.Sound.{IsDataset, HasSoundHeads, IsSoundAt, Sound, HoldsAll}
+use Rattle.dataset.specs.Sound.{IsDataset, HasSoundHeads, HasSoundLogs, IsSoundAt, Sound, HoldsAll}
 use Rattle.dataset.specs.Rounds.{KeepsSound}
 use Rattle.dataset.specs.Leads.{lead_text, IsAtCommit, CanLead, IsLed, branch_round}
 use Rattle.dataset.proofs.Splits.{head_names, split_once, no_head_at, branch_plain}
 use Rattle.repository.proofs.HeadTexts.{id_in-text}
 use Rattle.repository.proofs.Heading.{how_read}
 use Rattle.dataset.proofs.Heading.{now_detached, now_named, now_on_branch, same_head}
+use Rattle.dataset.proofs.Logs.{logs_as, stands_as}
 use Rattle.dataset.proofs.Wholes.{whole_stays, whole_is_id}
 use Rattle.dataset.proofs.Rows.{one_keeps}
 use Rattle.dataset.proofs.Watching.{grown, held_in, objects_as}
@@ -46,6 +49,15 @@ module _ (root leads : Names) (text : List ℕ) (g : Ground) (outside : IsRoot r
   holds : HoldsAll g after
   holds s apart = held_in (repo_of s) g after (same_objects s apart)
 
+  same_settings : file_at after (settings_place root) ≡ file_at g (settings_place root)
+  same_settings = elsewhere (settings_place root) (not_there root (codes "config" ∷ []) outside refl)
+
+  same_logs : HasSoundLogs root g → HasSoundLogs root after
+  same_logs =
+      logs_as root g after same_settings
+      (λ key. elsewhere (log_place (repo_of root) key) (not_there root (log_names key) outside refl))
+      (λ key is. stands_as (repo_of root) key g after (elsewhere (content_place (repo_of root) key) (not_there root (content_names key) outside refl)))
+
   -- a dataset with another head
   led_at : HasSoundHeads (repo_of root) after → IsSoundAt root g → IsSoundAt root after
   led_at heads at = record {
@@ -53,9 +65,10 @@ module _ (root leads : Names) (text : List ℕ) (g : Ground) (outside : IsRoot r
     heads = heads;
     settings = record {
       text = at.settings.text;
-      stands = elsewhere (repo_of root ++ codes "config" ∷ []) (not_there root (codes "config" ∷ []) outside refl) ∙ at.settings.stands;
+      stands = same_settings ∙ at.settings.stands;
       valid = at.settings.valid;
     };
+    logs = same_logs at.logs;
     tmp = λ names firm. elsewhere (repo_of root ++ codes "tmp" ∷ names) (not_there root (codes "tmp" ∷ names) outside refl) ∙ at.tmp names firm;
     outside = outside;
   }

@@ -2,7 +2,10 @@ pub mod Birth
 pub mod Commits
 pub mod Heading
 pub mod Ids
+pub mod Keeping
+pub mod KeyPlaces
 pub mod Leading
+pub mod Logs
 pub mod Moments
 pub mod Parents
 pub mod Putting

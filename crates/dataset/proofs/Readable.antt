@@ -4,7 +4,10 @@ use Rattle.std.specs.Prelude.{IsSome, is_some, option_map}
 use borrow.Author.Tests.{ltb-true, ltb-false}
 use Rattle.places.specs.All.{Names, text_of, longest, Ground, file_at, stands}
 use Rattle.faults.specs.declared.faults.Fault.{Fault}
-use Rattle.faults.specs.declared.faults.Fault.TheVariants.{BadCommit, BadTree}
+use Rattle.faults.specs.declared.faults.Fault.TheVariants.{BadCommit, BadLog, BadTree, TooLarge}
+use Rattle.annex_keys.specs.All.{IsKey, PlainKey}
+use Rattle.location_log.specs.All.{PlainLine}
+use Rattle.location_log.proofs.Logs.{one_reading}
 use Rattle.file_store.specs.All.{or_next}
 use Rattle.git_objects.specs.All.{Fields, IsBadAt, IsBadCommitAt, IsId, Object, is_dir}
 use Rattle.git_objects.specs.declared.entries.TreeEntry.{TreeEntry}
@@ -32,6 +35,8 @@ use Rattle.snapshot.specs.declared.entries.Leaf.{Leaf}
 use Rattle.snapshot.specs.declared.entries.Leaf.TheVariants.{Git, Link, Pin}
 use Rattle.snapshot.proofs.Annexing.{pointers_fault-append}
 use Rattle.snapshot.proofs.Blobs.{held_told}
+use Rattle.annex_store.specs.All.{IsLogFault, IsLogIn, large_log, log_limit, log_place}
+use Rattle.annex_store.specs.Logs.{IsFileFault}
 use Rattle.snapshot.specs.Flattens.{below}
 use Rattle.snapshot.proofs.Faultless.{EachSub-parts, cut_at}
 use Rattle.snapshot.proofs.Standing.{no_leaf_is_dir, stands_once, tree_same}
@@ -203,6 +208,17 @@ module _ (repo : Names) (g : Ground) where
 pub whole_tells_pointers : WholeTellsPointers
 whole_tells_pointers repo g = pointers_told repo g
 
+-- ---- logs
+large_log_limit : (place : Names) (file : Option (List ℕ)) → IsLimitAtMost (large_log place file)
+large_log_limit place None = tt
+large_log_limit place (Some text) = cond_limit (nat_lt log_limit (length text)) (Some (TooLarge (text_of place) (length text))) None tt tt
+
+-- a log in form is refused only for its size
+formed_read : (place : Names) (file : Option (List ℕ)) (lines : List PlainLine) (fault : Fault) → IsLogIn file lines → IsFileFault place file fault → IsLimit fault
+formed_read place None lines (BadLog at line) log fails = absurd fails.2
+formed_read place (Some text) lines (BadLog at line) log fails = absurd (one_reading.apart text lines line log fails.2)
+formed_read place file lines fault log fails = of_limit (large_log place file) fault (large_log_limit place file) fails
+
 -- ---- a sound dataset
 some_held : (o : Option Object) → IsSome o → (one : Object) × (o ≡ Some one)
 some_held None h = absurd (cc h)
@@ -235,6 +251,12 @@ module _ (root : Names) (g : Ground) (at : IsSoundAt root g) where
           or_limit (long_place (branch_place repo name)) (damaged_unless (branch_place repo name) (branch_id repo name g)) (long_limit (branch_place repo name))
           (subst (λ (o : Option (List ℕ)). IsLimitAtMost (damaged_unless (branch_place repo name) o)) (sym (ap (given id_in) e ∙ tip.1)) tt)
 
+  log_read : (key : PlainKey) (fault : Fault) → IsKey key → IsLogFault repo key g fault → IsLimit fault
+  log_read key fault is (inl long_log) = of_limit (long_place (log_place repo key)) fault (long_limit (log_place repo key)) long_log
+  log_read key fault is (inr (short, fails)) =
+      let found = at.logs.formed key is in
+      formed_read (log_place repo key) (file_at g (log_place repo key)) found.0 fault found.1 fails
+
   pub readable : IsReadable root g
   readable = record {
     tip = tip_read repo g at.heads.head at.heads.leads;
@@ -242,6 +264,7 @@ module _ (root : Names) (g : Ground) (at : IsSoundAt root g) where
     objects = object_read;
     commits = whole_read repo g;
     trees = flat_read repo g;
+    logs = log_read;
   }
 
 pub sound_is_readable : SoundIsReadable

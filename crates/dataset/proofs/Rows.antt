@@ -23,7 +23,7 @@ lies_watched a b x lies = record { places = λ q watched. ⊎_elim (λ old. inl 
 
 -- ---- unwatched rounds
 
-unwatched_apart : (q p : Names) → IsWatched q → (is_watched p ≡ false) → q ≢ p
+pub unwatched_apart : (q p : Names) → IsWatched q → (is_watched p ≡ false) → q ≢ p
 unwatched_apart q p watched not_it e = cc (sym watched ∙ ap is_watched e ∙ not_it)
 
 unwatched_same : (round : Round) (g : Ground) → IsUnwatched round → SameWatched (changed round g) g

@@ -8,10 +8,13 @@ use Rattle.repository.specs.All.{head_in, head_of, is_branch, object_of, held_at
 use Rattle.repository.specs.All.{head_place, branch_place, object_names, object_place}
 use Rattle.repository.specs.All.{LessTmp}
 use Rattle.repository.proofs.Unfinished.{tmp_firm}
+use Rattle.annex_store.specs.All.{content_names, log_names}
 use Rattle.dataset.specs.Watched.{IsRoot, SameWatched}
-use Rattle.dataset.specs.Sound.{HasSoundObjects, IsSoundAt, Sound, HoldsAllIn, HoldsAll, SameHeads}
+use Rattle.dataset.specs.Sound.{HasSoundLogs, HasSoundObjects, IsSoundAt, Sound, HoldsAllIn, HoldsAll, SameHeads}
 use Rattle.dataset.proofs.Splits.{head_names, is_watched_name, watched_at, watched_no_tmp, head_is_watched, head_watched, object_watched, branch_watched, settings_watched, tmp_watched}
 use Rattle.dataset.proofs.Heading.{head_in-as}
+use Rattle.dataset.proofs.KeyPlaces.{content_watched, is_annex_name, log_watched}
+use Rattle.dataset.proofs.Logs.{logs_as, stands_as}
 use Rattle.dataset.proofs.Wholes.{whole_stays, are_whole_stay}
 
 -- below `objects`
@@ -24,22 +27,27 @@ abbrev pub SameRest : Names → Ground → Ground → Type 0
 SameRest root b a =
     (names : Names) → is_watched_name names ≡ true → is_object_name names ≡ false → file_at b (repo_of root ++ names) ≡ file_at a (repo_of root ++ names)
 
-module _ (root : Names) (a b : Ground) (rest : SameRest root b a) where
-  branch_as : (name : List ℕ) → is_branch name ≡ true → file_at b (branch_place (repo_of root) name) ≡ file_at a (branch_place (repo_of root) name)
-  branch_as name named = rest (codes "refs" ∷ codes "heads" ∷ pieces name) (branch_watched name named) refl
+-- the same, but for contents and logs too
+abbrev pub SameCore : Names → Ground → Ground → Type 0
+SameCore root b a =
+    (names : Names) → is_watched_name names ≡ true → is_object_name names ≡ false → is_annex_name names ≡ false → file_at b (repo_of root ++ names) ≡ file_at a (repo_of root ++ names)
 
-  pub head_as : head_of b (repo_of root) ≡ head_of a (repo_of root)
-  head_as =
-      ap (head_in (λ name. file_at b (branch_place (repo_of root) name))) (rest head_names head_watched refl)
+module _ (root : Names) (a b : Ground) (core : SameCore root b a) where
+  branch_as : (name : List ℕ) → is_branch name ≡ true → file_at b (branch_place (repo_of root) name) ≡ file_at a (branch_place (repo_of root) name)
+  branch_as name named = core (codes "refs" ∷ codes "heads" ∷ pieces name) (branch_watched name named) refl refl
+
+  pub core_head : head_of b (repo_of root) ≡ head_of a (repo_of root)
+  core_head =
+      ap (head_in (λ name. file_at b (branch_place (repo_of root) name))) (core head_names head_watched refl refl)
       ∙ head_in-as (λ name. file_at a (branch_place (repo_of root) name)) (λ name. file_at b (branch_place (repo_of root) name)) branch_as (file_at a (head_place root))
 
-  -- with sound objects, a ground that has lost none is as sound
-  pub grown : HoldsAllIn (repo_of root) a b → HasSoundObjects (repo_of root) b → IsSoundAt root a → IsSoundAt root b
-  grown kept objects at = record {
+  -- with sound objects and logs, a ground that has lost no object is as sound
+  pub moved : HoldsAllIn (repo_of root) a b → HasSoundObjects (repo_of root) b → HasSoundLogs root b → IsSoundAt root a → IsSoundAt root b
+  moved kept objects logs at = record {
     objects = objects;
     heads = record {
       head = at.heads.head;
-      leads = head_as ∙ at.heads.leads;
+      leads = core_head ∙ at.heads.leads;
       whole = whole_stays (repo_of root) a b kept at.heads.head.id at.heads.whole;
       branches = λ name text named e.
           let found = at.heads.branches name text named (sym (branch_as name named) ∙ e) in
@@ -47,12 +55,28 @@ module _ (root : Names) (a b : Ground) (rest : SameRest root b a) where
     };
     settings = record {
       text = at.settings.text;
-      stands = rest (codes "config" ∷ []) settings_watched refl ∙ at.settings.stands;
+      stands = core (codes "config" ∷ []) settings_watched refl refl ∙ at.settings.stands;
       valid = at.settings.valid;
     };
-    tmp = λ names firm. rest (codes "tmp" ∷ names) (tmp_watched root names at.outside firm) refl ∙ at.tmp names firm;
+    logs = logs;
+    tmp = λ names firm. core (codes "tmp" ∷ names) (tmp_watched root names at.outside firm) refl refl ∙ at.tmp names firm;
     outside = at.outside;
   }
+
+module _ (root : Names) (a b : Ground) (rest : SameRest root b a) where
+  to_core : SameCore root b a
+  to_core names watched object annex = rest names watched object
+
+  pub head_as : head_of b (repo_of root) ≡ head_of a (repo_of root)
+  head_as = core_head root a b to_core
+
+  logs_too : HasSoundLogs root a → HasSoundLogs root b
+  logs_too = logs_as root a b (rest (codes "config" ∷ []) settings_watched refl) (λ key. rest (log_names key) (log_watched key) refl)
+      (λ key is. stands_as (repo_of root) key a b (rest (content_names key) (content_watched key) refl))
+
+  -- with sound objects, a ground that has lost none is as sound
+  pub grown : HoldsAllIn (repo_of root) a b → HasSoundObjects (repo_of root) b → IsSoundAt root a → IsSoundAt root b
+  grown kept objects at = moved root a b to_core kept objects (logs_too at.logs) at
 
 -- the same objects
 module _ (repo : Names) (a b : Ground) (same : (id : List ℕ) → file_at b (object_place repo id) ≡ file_at a (object_place repo id)) where

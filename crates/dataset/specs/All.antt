@@ -1,6 +1,9 @@
 -- The words of this crate, for those above.
 pub use Rattle.dataset.specs.Births.{BirthKeeps, IsBirth, IsBorn, bare_round, birth_rounds}
 pub use Rattle.dataset.specs.Births.{head_round}
+pub use Rattle.dataset.specs.Contents.{ContentsKeep, EachChange, HasContents, HoldsContents}
+pub use Rattle.dataset.specs.Contents.{IsContentPut, IsLogSet, KeepsContents, LogsKeep}
+pub use Rattle.dataset.specs.Contents.{PutsContents, SetsLogs}
 pub use Rattle.dataset.specs.Laws.{EmptyIsSound, LessTmpIsSound, LooksNowhereElse, MoreRounds}
 pub use Rattle.dataset.specs.Laws.{ObjectsKeep, OneFileKeeps, RoundsKeep, SameKeeps, SomeAreIntact}
 pub use Rattle.dataset.specs.Laws.{TipKeeps, UnwatchedKeeps, WalksServe, WholeMeans, WholeStays}
@@ -20,9 +23,9 @@ pub use Rattle.dataset.specs.Saves.{FlatSaveIsSave, IsBlobThere, IsFlatSave, IsL
 pub use Rattle.dataset.specs.Saves.{IsNewCommit, IsSave, IsSaved, NewCommitIsWhole, NoFaultIsFree}
 pub use Rattle.dataset.specs.Saves.{NoneCollide, PutAreHeld, SaveKeeps, blob_objects, commit_object}
 pub use Rattle.dataset.specs.Saves.{saved_objects}
-pub use Rattle.dataset.specs.Sound.{HasSoundHeads, HasSoundObjects, HasSoundSettings, HasSoundTmp}
-pub use Rattle.dataset.specs.Sound.{HoldsAll, HoldsAllIn, IsConfiguration, IsDataset, IsSoundAt}
-pub use Rattle.dataset.specs.Sound.{SameHeads, Sound}
+pub use Rattle.dataset.specs.Sound.{HasSoundHeads, HasSoundLogs, HasSoundObjects, HasSoundSettings}
+pub use Rattle.dataset.specs.Sound.{HasSoundTmp, HasUuid, HoldsAll, HoldsAllIn, IsConfiguration}
+pub use Rattle.dataset.specs.Sound.{IsDataset, IsFormed, IsSoundAt, SameHeads, Sound}
 pub use Rattle.dataset.specs.Steps.{BindKeeps, GoByTmp, PutObjectsKeep, PutObjectsLeave, PutsKeep}
 pub use Rattle.dataset.specs.Steps.{PutsLeave, StillStepsKeep}
 pub use Rattle.dataset.specs.Watched.{IsRoot, IsWatched, SameWatched, is_looked_at, is_own, is_seen}

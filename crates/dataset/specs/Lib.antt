@@ -1,5 +1,6 @@
 pub mod All
 pub mod Births
+pub mod Contents
 pub mod Laws
 pub mod Leads
 pub mod Moments

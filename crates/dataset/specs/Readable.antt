@@ -4,11 +4,13 @@ use Rattle.places.specs.All.{Ground, Names, stands}
 use Rattle.faults.specs.declared.faults.Fault.{Fault}
 use Rattle.faults.specs.declared.faults.Fault.TheVariants.{TooLarge}
 use Rattle.git_objects.specs.All.{IsId}
+use Rattle.annex_keys.specs.All.{IsKey, PlainKey}
 use Rattle.repository.specs.All.{branch_place, is_branch, repo_of}
 use Rattle.object_store.specs.All.{IsCommitFault, get_fault}
 use Rattle.ref_store.specs.All.{branch_fault, tip_fault}
 use Rattle.snapshot.specs.All.{IsFlat, IsFlattenFault, pointers_fault}
 use Rattle.snapshot.specs.declared.entries.Entry.{Entry}
+use Rattle.annex_store.specs.All.{IsLogFault}
 use Rattle.dataset.specs.Whole.{IsWhole}
 use Rattle.dataset.specs.Sound.{IsSoundAt}
 
@@ -23,7 +25,7 @@ IsLimitAtMost None = Unit {0}
 IsLimitAtMost (Some fault) = IsLimit fault
 
 -- For nothing but a limit is the tip refused, or the file of a branch that stands, or an object
--- with any id, or a whole commit, or one with all its trees.
+-- with any id, or a whole commit, or one with all its trees, or the log of a key.
 pub record IsReadable (root : Names) (g : Ground) : Type 0 where
   pub tip : IsLimitAtMost (tip_fault (repo_of root) g)
   pub branches : (name : List ℕ) → is_branch name ≡ true
@@ -34,9 +36,11 @@ pub record IsReadable (root : Names) (g : Ground) : Type 0 where
       → IsCommitFault (repo_of root) id g fault → IsLimit fault
   pub trees : (id : List ℕ) (fault : Fault) → IsWhole (repo_of root) id g
       → IsFlattenFault (repo_of root) id g fault → IsLimit fault
+  pub logs : (key : PlainKey) (fault : Fault) → IsKey key → IsLogFault (repo_of root) key g fault
+      → IsLimit fault
 
--- A sound dataset is so: no object, tree, commit, HEAD or branch in it is missing, damaged or out
--- of form.
+-- A sound dataset is so: no object, tree, commit, HEAD, branch or log in it is missing, damaged or
+-- out of form.
 abbrev pub SoundIsReadable : Type 0
 SoundIsReadable = (root : Names) (g : Ground) → IsSoundAt root g → IsReadable root g
 

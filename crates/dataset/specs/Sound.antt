@@ -3,9 +3,12 @@ use Rattle.std.specs.Prelude.{◌≡◌, ℕ, true, false, List, ◌∷◌, ◌+
 use Rattle.places.specs.All.{Names, Ground, file_at, stands}
 use Rattle.git_objects.specs.All.{Fields, IsId, Object}
 use Rattle.config_text.specs.All.{PlainConfig, config_in}
+use Rattle.annex_keys.specs.All.{IsKey, PlainKey}
+use Rattle.location_log.specs.All.{PlainLine}
 use Rattle.repository.specs.All.{Head, head_of, id_in, is_branch, held_at, repo_of, head_place}
 use Rattle.repository.specs.All.{settings_place, object_place, branch_place, is_tmp}
 use Rattle.object_store.specs.All.{IsCommitAt}
+use Rattle.annex_store.specs.All.{IsHonest, IsLogIn, log_place}
 use Rattle.dataset.specs.Watched.{IsRoot}
 use Rattle.dataset.specs.Whole.{IsWhole, AreWhole}
 
@@ -39,6 +42,26 @@ pub record HasSoundSettings (root : Names) (g : Ground) : Type 0 where
   pub stands : file_at g (settings_place root) ≡ Some text
   pub valid : IsConfiguration text
 
+-- The repository's own UUID, as its configuration says.
+pub record HasUuid (root : Names) (uuid : List ℕ) (g : Ground) : Type 0 where
+  pub text : List ℕ
+  pub config : PlainConfig
+  pub stands : file_at g (settings_place root) ≡ Some text
+  pub read : config_in text ≡ Ok config
+  pub own : config.uuid ≡ uuid
+
+-- The log of a key is in form: no file stands at its place, or one that is a text of lines.
+abbrev pub IsFormed : Names → PlainKey → Ground → Type 0
+IsFormed root key g =
+    (lines : List PlainLine) × IsLogIn (file_at g (log_place (repo_of root) key)) lines
+
+-- The log of each key is in form, and honest: where it says that the repository itself has the
+-- content, bytes that match the key stand at the content's place.
+pub record HasSoundLogs (root : Names) (g : Ground) : Type 0 where
+  pub formed : (key : PlainKey) → IsKey key → IsFormed root key g
+  pub honest : (key : PlainKey) (uuid : List ℕ) → IsKey key → HasUuid root uuid g
+      → IsHonest (repo_of root) uuid key g
+
 -- At `tmp` and below it stand unfinished writes alone, each directly in it: no file stands at `tmp`
 -- itself, and none deeper below it, but for unfinished writes of a repository that lies there.
 abbrev pub HasSoundTmp : Names → Ground → Type 0
@@ -46,12 +69,13 @@ HasSoundTmp repo g =
     (names : Names) → is_tmp (repo ++ codes "tmp" ∷ names) ≡ false
     → file_at g (repo ++ codes "tmp" ∷ names) ≡ None
 
--- What a sound ground has of a dataset whose files are all kept in git: its objects, its heads, its
--- configuration, room for unfinished writes; and it isn't in a repository.
+-- What a sound ground has of a dataset: its objects, its heads, its configuration, the logs of its
+-- contents, room for unfinished writes; and it isn't in a repository.
 pub record IsSoundAt (root : Names) (g : Ground) : Type 0 where
   pub objects : HasSoundObjects (repo_of root) g
   pub heads : HasSoundHeads (repo_of root) g
   pub settings : HasSoundSettings root g
+  pub logs : HasSoundLogs root g
   pub tmp : HasSoundTmp (repo_of root) g
   pub outside : IsRoot root
 

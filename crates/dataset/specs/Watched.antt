@@ -12,7 +12,7 @@ IsRoot root = has_name dlrepo root ≡ false
 abbrev pub is_own : List ℕ → Bool
 is_own n =
     bytes_eq n (codes "objects") || (bytes_eq n (codes "HEAD") || (bytes_eq n (codes "refs")
-    || (bytes_eq n (codes "config") || bytes_eq n (codes "tmp"))))
+    || (bytes_eq n (codes "config") || (bytes_eq n (codes "annex") || bytes_eq n (codes "tmp")))))
 
 -- The names of a place in a repository: one of these or below it, or in a further repository.
 abbrev pub is_looked_at : Names → Bool
@@ -25,8 +25,9 @@ is_seen [] = false
 is_seen (n ∷ ns) = if bytes_eq dlrepo n then is_looked_at ns else is_seen ns
 
 -- A place at which soundness, heads and held objects look: in a repository its objects, HEAD, refs
--- and configuration, `tmp` itself and what lies deeper below it than an unfinished write, and all
--- of a repository that lies in it; no unfinished write.
+-- and configuration, what lies below `annex` (contents and their logs), `tmp` itself and what lies
+-- deeper below it than an unfinished write, and all of a repository that lies in it; no unfinished
+-- write.
 abbrev pub is_watched : Names → Bool
 is_watched q = not (is_tmp q) && is_seen q
 

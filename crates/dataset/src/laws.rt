@@ -3,6 +3,7 @@ ghost use Rattle.dataset.specs.Laws.{WholeStays, WholeMeans, WalksServe, LooksNo
 ghost use Rattle.dataset.specs.Laws.{EmptyIsSound, ObjectsKeep, SomeAreIntact, TipKeeps, UnwatchedKeeps, OneFileKeeps};
 ghost use Rattle.dataset.specs.Laws.{SameKeeps, RoundsKeep, MoreRounds};
 ghost use Rattle.dataset.specs.Births.{BirthKeeps};
+ghost use Rattle.dataset.specs.Contents.{ContentsKeep, LogsKeep};
 ghost use Rattle.dataset.specs.Leads.{BranchKeeps, LeadKeeps};
 ghost use Rattle.dataset.specs.Moments.{RestIsSettled, ActsStaySound};
 ghost use Rattle.dataset.specs.Readable.{SoundIsReadable, WholeTellsPointers};
@@ -73,6 +74,16 @@ pub fn branch_keeps()
 /// HEAD that is led to a branch, or to a commit.
 pub fn lead_keeps()
     ensures { LeadKeeps }
+{}
+
+/// Contents that are put keep a ground sound.
+pub fn contents_keep()
+    ensures { ContentsKeep }
+{}
+
+/// So do logs that are set.
+pub fn logs_keep()
+    ensures { LogsKeep }
 {}
 
 /// A round of unwatched places keeps a ground sound.
