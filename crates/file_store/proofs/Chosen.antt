@@ -1,22 +1,23 @@
 -- What is chosen for the open places, place by place, and that a crash may leave it.
-use Rattle.std.proofs.Common.{◌≡◌, ◌≢◌, ◌⊎◌, inl, inr, ℕ, ◌+◌, ◌<◌, ◌≤◌, Bool, true, false, cond, ◌&&◌, List, [], ◌∷◌, get_or, length, Option, Some, None, arith, refl, sym, ◌∙◌, ap, subst}
-use Rattle.std.specs.Prelude.{◌==◌, IsSome, is_some, option_map}
+use Rattle.std.proofs.Common.{◌≡◌, ◌≢◌, ◌⊎◌, inl, inr, ℕ, ◌+◌, ◌<◌, ◌≤◌, Bool, true, false, cond, ◌&&◌, ◌||◌, List, [], ◌∷◌, get_or, length, Option, Some, None, arith, refl, sym, ◌∙◌, ap, subst}
+use Rattle.std.specs.Prelude.{◌==◌, IsSome, is_some, IsTrue, option_map}
 use Rattle.std.specs.List.{list_any, slice_get}
 use Rattle.std.specs.List.Sorted.{IsStrictlySortedBy}
+use Rattle.std.specs.FinMap.{insert, remove}
 use Rattle.std.proofs.lemmas.Bool.{cases_Bool, false≢true, false_from_ne_true}
 use Rattle.std.proofs.lemmas.Map.Keys.{Less-from_sorted}
 use Rattle.std.proofs.lemmas.Map.Views.{Contains-from_any}
 use Rattle.std.proofs.lemmas.List.Folds.{list_any_at}
 use Rattle.std.proofs.lemmas.Option.{get_or_from_slice_get, slice_get-get_or, slice_get_cases}
-use Rattle.places.specs.All.{Names, place_cmp, place_eq, Ground, file_at, stands, is_shut}
+use Rattle.places.specs.All.{Names, IsAbove, place_cmp, place_eq, Ground, file_at, stands, is_shut}
 use Rattle.places.specs.All.{IsGround}
 use Rattle.places.proofs.Ties.{same_names}
 use Rattle.places.proofs.Texts.{and_both}
 use Rattle.places.proofs.Grammar.{or_either, or_left, or_right}
-use Rattle.places.proofs.Grounds.{same, file_at-insert_same, file_at-insert_other, file_at-remove_same, file_at-remove_other}
+use Rattle.places.proofs.Grounds.{cases_place, same, file_at-insert_same, file_at-insert_other, file_at-remove_same, file_at-remove_other}
 use Rattle.places.proofs.Standing.{is_shut-above, is_shut-below, IsGround-open}
 use Rattle.file_store.specs.Course.{with_file}
-use Rattle.file_store.specs.Disk.{Disk, MayHave, IsImage}
+use Rattle.file_store.specs.Disk.{Disk, MayHave, is_open, IsImage}
 use Rattle.file_store.specs.Memory.Images.{AreOpen, torn_by, left_by, IsChosen}
 use Rattle.file_store.proofs.Laid.{differ_by_order}
 

@@ -10,7 +10,7 @@ use Rattle.std.specs.BTreeSet.{BTreeSet, IsEmpty, IsOrdered, contains, Updates}
 use Rattle.std.proofs.lemmas.List.Kept.{IsStrictlySortedBy-filter}
 use Rattle.std.proofs.lemmas.Map.Made.{is_some-lookup}
 use Rattle.std.proofs.lemmas.Map.Views.{any-filter_same}
-use Rattle.places.specs.All.{Names, place_cmp, place_eq, file_at, stands}
+use Rattle.places.specs.All.{Names, place_cmp, place_eq, Ground, file_at, stands}
 use Rattle.places.proofs.Ties.{place_eq-cmp, same_names}
 use Rattle.file_store.specs.Disk.{Disk, is_open, same_file}
 use Rattle.file_store.specs.Memory.Images.{AreOpen}

@@ -1,5 +1,5 @@
 -- A disk of one moment, as the replay of its calls keeps it.
-use Rattle.std.specs.Prelude.{Bool, not, ◌||◌}
+use Rattle.std.specs.Prelude.{ℕ, Bool, not, ◌||◌, List}
 use Rattle.std.specs.BTreeSet.{contains}
 use Rattle.places.specs.All.{Names, place_cmp, file_at}
 use Rattle.file_store.specs.Disk.{Disk, same_file}

@@ -1,4 +1,4 @@
-use Rattle.std.proofs.Common.{◌||◌, sym, ◌∙◌, ap}
+use Rattle.std.proofs.Common.{◌||◌, sym, ◌∙◌, ap, List, ℕ}
 use Rattle.std.specs.BTreeSet.{contains}
 use Rattle.places.specs.All.{Names, place_cmp, place_eq}
 use Rattle.file_store.specs.Memory.Moment.{disk_of, tears}

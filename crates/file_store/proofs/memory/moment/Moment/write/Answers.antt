@@ -1,4 +1,4 @@
-use Rattle.std.proofs.Common.{◌||◌, refl, ◌∙◌, ap}
+use Rattle.std.proofs.Common.{◌||◌, refl, ◌∙◌, ap, List, ℕ}
 use Rattle.std.specs.BTreeSet.{contains}
 use Rattle.std.specs.FinMap.{insert}
 use Rattle.places.specs.All.{Names, place_cmp, place_eq}
