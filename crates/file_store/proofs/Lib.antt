@@ -5,6 +5,8 @@ pub mod Consequences
 pub mod Course
 pub mod ManyFiles
 pub mod Rounds
+mod Renames
+pub mod Staging
 mod Effects
 mod Chosen
 pub mod Counted

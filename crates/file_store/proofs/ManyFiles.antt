@@ -1,5 +1,5 @@
 -- A list of files replaced, round by round.
-use Rattle.std.proofs.Common.{◌≡◌, ◌≢◌, ◌≤◌, inl, inr, ℕ, suc, zero, true, Bool, IsTrue, cond, List, [], ◌∷◌, Some, None, Ok, Err, Result, refl, sym, ◌∙◌, ap, subst, arith}
+use Rattle.std.proofs.Common.{◌≡◌, ◌≢◌, inl, inr, ℕ, suc, zero, true, Bool, IsTrue, cond, List, [], ◌∷◌, Some, None, Ok, Err, Result, refl, sym, ◌∙◌, ap, subst, arith}
 use Rattle.std.specs.Prelude.{slice_get}
 use Rattle.std.specs.FinMap.{insert, remove}
 use Rattle.std.proofs.lemmas.Bool.{false_from_ne_true}
@@ -77,7 +77,7 @@ module _ (list : List Replacement) (apart : AreApart list) where
   replaced-round g q firm = installed-round list (staged list g) q apart.places firm ∙ changed-as (round_of list) (staged list g) g q (staged_other list g q firm)
 
 -- where the writes are not refused, the first isn't
-not_first : (list : List Replacement) (g : Ground) → stage_block list g ≡ None → first_shut list g ≡ true → ⊥
+pub not_first : (list : List Replacement) (g : Ground) → stage_block list g ≡ None → first_shut list g ≡ true → ⊥
 not_first [] g free shut = absurd (cc)
 not_first (r ∷ list) g free shut =
     let here : Some r.tmp ≡ None = sym (ap (λ b. cond b (Some r.tmp) (stage_block list (insert g r.tmp r.bytes))) shut) ∙ free in

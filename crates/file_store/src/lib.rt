@@ -13,5 +13,5 @@ pub use files::Files;
 pub use kinds::{Item, Kind};
 pub use memory::{MemErr, MemFiles, MemSink};
 pub use places::{Bytes, Place, PlaceErr, Text};
-pub use replacing::{Replacement, remove_all, replace, replace_all};
+pub use replacing::{Move, Replacement, move_all, remove_all, replace, replace_all, stage};
 pub use sinks::{Sink, write_whole};

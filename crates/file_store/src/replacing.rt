@@ -3,17 +3,18 @@
 // The order is what keeps the promise: all bytes are written to temporary places, a barrier makes them safe, each is
 // renamed onto its place, and a second barrier makes the names safe. A reader never sees a part of a file. After a
 // failure each place has the old bytes or the new ones, and a temporary file may be left.
-ghost use Rattle.std.specs.Prelude.{◌≢◌, IsTrue, [], ◌∷◌};
+ghost use Rattle.std.specs.Prelude.{◌≡◌, ◌≢◌, IfOk, IsTrue, [], ◌∷◌};
+ghost use Rattle.places.specs.All.{Names};
 ghost use Rattle.file_store.specs.Causes.{Counts, has_failed};
 ghost use Rattle.file_store.specs.Course.{GoesAlong};
-ghost use Rattle.file_store.specs.Replaced.{only, ReplaceEnds, AreApart, IsNoTmp, round_of, replacing};
-ghost use Rattle.file_store.specs.Rounds.{StageEnds, AreReady, MoveEnds};
+ghost use Rattle.file_store.specs.Replaced.{only, ReplaceEnds, AreApart, IsNoTmp, replacing};
+ghost use Rattle.file_store.specs.Rounds.{StageEnds, StagesEnd, moves_of, MovesEnd, MovesGo, RenamesEnd, RenamesGo};
 ghost use Rattle.file_store.specs.Removed.{Everywhere, removal_of, RemoveAllEnds};
 
 use crate::errors::FileErr;
 use crate::files::Files;
 use places::{Bytes, Place};
-use std::alloc::Global;
+use std::alloc::{AllocError, Global};
 
 /// A file to be replaced, with the temporary place by which it goes.
 #[derive(Drop)]
@@ -21,6 +22,13 @@ pub struct Replacement {
     pub tmp: Place,
     pub place: Place,
     pub bytes: Bytes,
+}
+
+/// A file that is moved from a temporary place to its place.
+#[derive(Drop)]
+pub struct Move {
+    pub tmp: Place,
+    pub place: Place,
 }
 
 /// Replaces the file at `place`, by way of `tmp`, at the price of two barriers.
@@ -58,35 +66,78 @@ pub fn replace_all<F: Files>(
     ensures crash { IsTrue F.tells → GoesAlong (IsNoTmp list.now) (replacing list.now) (F.drive files.old)
         (F.drive files.new) }
 {
+    let moves = moves_of(alloc, list)?;
     stage_all(alloc, files, list)?;
+    move_all(alloc, files, moves.as_slice())
+}
+
+/// Writes a file to its temporary place, from where `move_all` moves it. Files of many bytes are staged one by one, so
+/// that one of them is in memory at a time.
+pub fn stage<F: Files>(
+    alloc: Global,
+    files: &mut F,
+    tmp: &Place,
+    bytes: &[u8],
+) -> Result<(), FileErr>
+    ensures later { Counts (has_failed result) (F.drive files.old).faults (F.drive files.new).faults }
+
+    // Whatever the place is to which it goes.
+    ensures ends { (place : Names) → StageEnds F.tells (only tmp.now place bytes.now) (F.drive files.old)
+        (F.drive files.new) result }
+    ensures crash { (place : Names) → IsTrue F.tells → GoesAlong (IsNoTmp (only tmp.now place bytes.now)) (λ g. [])
+        (F.drive files.old) (F.drive files.new) }
+{
+    files.write(alloc, tmp, bytes)
+}
+
+/// Moves the files that are staged to their places, at the price of two barriers.
+pub fn move_all<F: Files>(alloc: Global, files: &mut F, moves: &[Move]) -> Result<(), FileErr>
+    ensures later { Counts (has_failed result) (F.drive files.old).faults (F.drive files.new).faults }
+
+    // Of the files that were staged since any earlier drive.
+    ensures ends { MovesEnd F.tells moves.now (F.drive files.old) (F.drive files.new) result }
+    ensures crash { IsTrue F.tells → MovesGo moves.now (F.drive files.old) (F.drive files.new) }
+{
     files.barrier(alloc)?;
-    move_all(alloc, files, list)?;
+    rename_all(alloc, files, moves)?;
     files.barrier(alloc)
+}
+
+// Where each file of the list goes.
+fn moves_of(alloc: Global, list: &[Replacement]) -> Result<Vec<Move>, AllocError>
+    ensures { IfOk result (λ moves. moves.items ≡ moves_of list.now) }
+{
+    let mut moves = Vec::new(alloc);
+    for replacement in list {
+        moves.push(Move {
+            tmp: replacement.tmp.try_clone(alloc)?,
+            place: replacement.place.try_clone(alloc)?,
+        })?;
+    }
+    Ok(moves)
 }
 
 // Writes each file to its temporary place.
 fn stage_all<F: Files>(alloc: Global, files: &mut F, list: &[Replacement]) -> Result<(), FileErr>
     ensures later { Counts (has_failed result) (F.drive files.old).faults (F.drive files.new).faults }
-    ensures ends { StageEnds F.tells list.now (F.drive files.old) (F.drive files.new) result }
-    ensures crash { IsTrue F.tells → GoesAlong (IsNoTmp list.now) (λ g. []) (F.drive files.old) (F.drive files.new) }
+    ensures ends { StagesEnd F.tells list.now (F.drive files.old) (F.drive files.new) result }
+    ensures crash { IsTrue F.tells → GoesAlong (IsNoTmp list.now) (replacing list.now) (F.drive files.old)
+        (F.drive files.new) }
 {
     for replacement in list {
-        files.write(alloc, &replacement.tmp, replacement.bytes.as_slice())?;
+        stage(alloc, files, &replacement.tmp, replacement.bytes.as_slice())?;
     }
     Ok(())
 }
 
 // Moves each file from there to its place.
-fn move_all<F: Files>(alloc: Global, files: &mut F, list: &[Replacement]) -> Result<(), FileErr>
-    requires apart { AreApart list.now }
-    requires staged { IsTrue F.tells → AreReady list.now (F.drive files.old) }
+fn rename_all<F: Files>(alloc: Global, files: &mut F, moves: &[Move]) -> Result<(), FileErr>
     ensures later { Counts (has_failed result) (F.drive files.old).faults (F.drive files.new).faults }
-    ensures ends { MoveEnds F.tells list.now (F.drive files.old) (F.drive files.new) result }
-    ensures crash { IsTrue F.tells → GoesAlong (IsNoTmp list.now) (λ g. round_of list.now ∷ []) (F.drive files.old)
-        (F.drive files.new) }
+    ensures ends { RenamesEnd F.tells moves.now (F.drive files.old) (F.drive files.new) result }
+    ensures crash { IsTrue F.tells → RenamesGo moves.now (F.drive files.old) (F.drive files.new) }
 {
-    for replacement in list {
-        files.rename(alloc, &replacement.tmp, &replacement.place)?;
+    for file in moves {
+        files.rename(alloc, &file.tmp, &file.place)?;
     }
     Ok(())
 }
