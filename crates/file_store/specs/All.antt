@@ -31,7 +31,8 @@ pub use Rattle.file_store.specs.Removed.{Everywhere, RemoveAllEnds, removal_of}
 pub use Rattle.file_store.specs.Replaced.{AreApart, IsNoTmp, ReplaceEnds, all_replaced, block_of}
 pub use Rattle.file_store.specs.Replaced.{first_shut, installed, move_block, only, or_next}
 pub use Rattle.file_store.specs.Replaced.{replaced, replacing, round_of, stage_block, staged}
-pub use Rattle.file_store.specs.Rounds.{AreMovesOf, AreReady, AreStaged, MoveEnds, MovesEnd, MovesGo}
+pub use Rattle.file_store.specs.Rounds.{AreMovesOf, AreReady, AreStaged, MoveEnds, MovesEnd}
+pub use Rattle.file_store.specs.Rounds.{MovesGo}
 pub use Rattle.file_store.specs.Rounds.{RenamesEnd, RenamesGo, StageEnds, StagesEnd, moves_of}
 pub use Rattle.file_store.specs.Tape.{CountsBoth, Grew, GrewBy, IsLater, PieceEnds, Tape, WholeEnds}
 pub use Rattle.file_store.specs.Tape.{sink_failed, sink_starved}

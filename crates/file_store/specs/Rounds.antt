@@ -1,5 +1,5 @@
--- The two parts of a round in which a list of files is replaced: the writes to the temporary places,
--- and the moves from there.
+-- The two parts of a round in which a list of files is replaced: the writes to the temporary
+-- places, and the moves from there.
 use Rattle.std.specs.Prelude.{◌≡◌, ℕ, Bool, true, IsTrue, List, [], ◌∷◌, map, slice_get, Some}
 use Rattle.std.specs.Prelude.{None, Result, Ok, Err}
 use Rattle.places.specs.All.{file_at}
@@ -42,8 +42,8 @@ MoveEnds tells list old new (Err (Blocked at)) =
     IsTrue tells × (move_block list (present old) ≡ Some at)
 MoveEnds tells list old new (Err NoMemory) = Unit {0}
 
--- The files of a list were staged since a drive: they stand at their temporary places, none of which
--- was shut, and at each moment nothing else has changed; of an empty list nothing at all.
+-- The files of a list were staged since a drive: they stand at their temporary places, none of
+-- which was shut, and at each moment nothing else has changed; of an empty list nothing at all.
 pub record AreStaged (list : List Replacement) (old new : Drive) : Type 0 where
   pub written : present new ≡ staged list (present old)
   pub free : stage_block list (present old) ≡ None
@@ -76,8 +76,8 @@ RenamesGo moves old new =
     (list : List Replacement) → AreMovesOf moves list → AreReady list old
     → GoesAlong (IsNoTmp list) (λ g. round_of list ∷ []) old new
 
--- The moves of files that were staged since a drive end as the replacement of all of them does, from
--- that drive on.
+-- The moves of files that were staged since a drive end as the replacement of all of them does,
+-- from that drive on.
 abbrev pub MovesEnd : Bool → List Move → Drive → Drive → Result (Unit {0}) FileErr → Type 0
 MovesEnd tells moves old new result =
     (list : List Replacement) (start : Drive) → AreMovesOf moves list

@@ -153,8 +153,8 @@ pub data IsSave (root : Names) (wish : SaveWish) (g : Ground) : Act (Option Id) 
       → is_changed old (working root g) ≡ true → plan_fault root g old ≡ None
       → IsSavePlan root wish g parent old plan → IsSave root wish g (saves root plan g)
 
--- What is past a limit where a dataset is saved: where it is looked at; the text of the configuration;
--- the bytes of the new blobs; the place of the repository, or that of an object in it.
+-- What is past a limit where a dataset is saved: where it is looked at; the text of the
+-- configuration; the bytes of the new blobs; the place of the repository.
 abbrev pub IsOverToSave : Names → List ℕ → ℕ → Type 0
 IsOverToSave root path size =
     IsOverToView root path size
