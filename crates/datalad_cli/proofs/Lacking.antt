@@ -7,7 +7,10 @@ use Rattle.faults.specs.declared.faults.Fault.TheVariants.{BadPath, PathUnknown,
 use Rattle.datalad_cli.specs.Messages.{InFile, MayLack, MayLackAt, Source, Told, message_at, message_in, message_limit}
 use Rattle.datalad_cli.specs.Words.{message_of}
 
-own_fault : (one two : Fault) → Err {A = List ℕ} one ≡ Err two → one ≡ two
+abbrev refused : Fault → Result (List ℕ) Fault
+refused fault = Err fault
+
+own_fault : (one two : Fault) → refused one ≡ refused two → one ≡ two
 own_fault one two is = cc is
 
 lacks_large : (place : Names) (bytes : List ℕ) (fault : Fault) (b : Bool) → nat_lt message_limit (length bytes) ≡ b
