@@ -6,13 +6,13 @@
 _datalad_commands="create save status log --help --version"
 
 # The options that take a value, by their short and long names.
-_datalad_with_value="-d --dataset -m --message"
+_datalad_with_value="-d --dataset -m --message -F --message-file"
 
 # _datalad_options COMMAND: its options, by their short and long names
 _datalad_options() {
   case $1 in
     create) ;;
-    save) echo "-d --dataset -m --message --to-git" ;;
+    save) echo "-d --dataset -m --message -F --message-file --to-git" ;;
     status | log) echo "-d --dataset" ;;
   esac
 }

@@ -13,9 +13,10 @@ use Rattle.file_store.proofs.Counted.{counts_from}
 use Rattle.acts.proofs.As.{as_allowed}
 use Rattle.acts.proofs.Laws.{after_reading, done}
 use Rattle.recursive_save.specs.All.{AreSaveLines, IsSave, MaySave, SaveSays, dataset_line}
-use Rattle.datalad_cli.specs.Commands.{CarriesOut, Save, IsActIn, IsActOf, IsSaveAct, MayAnswer}
+use Rattle.datalad_cli.specs.Commands.{CarriesOut, Save, IsActIn, IsActOf, IsSaveBy, MayAnswer}
 use Rattle.datalad_cli.specs.Commands.{ending_with, wish_of, with_text}
 use Rattle.datalad_cli.specs.Finding.{IsRootOf, Location, no_root, root_in}
+use Rattle.datalad_cli.specs.Messages.{Source, message_in}
 
 -- A CALL AFTER A READING
 more_cause : (V W : Type 0) (may more : Fault → Type 0) → ((fault : Fault) → may fault → more fault) → (t : Trouble) → HasCause {V = V} may (Err t) → HasCause {V = W} more (Err t)
@@ -84,16 +85,23 @@ same_halt V W (Refused fault) h = absurd h
 same_halt V W Device h = h
 same_halt V W NoMemory h = h
 
-module _ (at : Location) (message : List ℕ) (moment : ℕ) (root : Names) (there : IsRootOf at root) (tells : Bool) (l0 l1 : List Line) (d0 d1 : Drive)
-    (found : IsTrue tells → root_in at (present d0) ≡ Some root) where
-  act_at : (g : Ground) (saved : Act (Option Id)) → root_in at g ≡ Some root → IsSave root (wish_of message moment) g saved → IsActOf (Save at message moment) g (with_text [] saved)
-  act_at g saved is one = subst (λ (o : Option Names). IsActIn at (IsSaveAct (wish_of message moment) g) o (with_text [] saved)) (sym is) (saved, one, refl)
+-- an act of `save` at the root that was found, by what its message came to
+pub act_by : (at : Location) (source : Source) (moment : ℕ) (root : Names) (told : Result (List ℕ) Fault) (g : Ground) (act : Act (List ℕ))
+    → root_in at g ≡ Some root → message_in source g ≡ told → IsSaveBy told moment g root act → IsActOf (Save at source moment) g act
+act_by at source moment root told g act found from is =
+    subst (λ (o : Option Names). IsActIn at (IsSaveBy (message_in source g) moment g) o act) (sym found)
+    (subst (λ (told : Result (List ℕ) Fault). IsSaveBy told moment g root act) (sym from) is)
+
+module _ (at : Location) (source : Source) (moment : ℕ) (root : Names) (message : List ℕ) (there : IsRootOf at root) (tells : Bool) (l0 l1 : List Line) (d0 d1 : Drive)
+    (found : IsTrue tells → root_in at (present d0) ≡ Some root) (from : IsTrue tells → message_in source (present d0) ≡ Ok message) where
+  act_at : IsTrue tells → (saved : Act (Option Id)) → IsSave root (wish_of message moment) (present d0) saved → IsActOf (Save at source moment) (present d0) (with_text [] saved)
+  act_at t saved one = act_by at source moment root (Ok message) (present d0) (with_text [] saved) (found t) (from t) (saved, one, refl)
 
   abbrev Saves : Result (Option Id) Trouble → Type 0
   Saves r = ActsAs (λ fault. MaySave tells root fault) tells (λ g act. IsSave root (wish_of message moment) g act) l0 l1 d0 d1 r
 
   abbrev Does : Result (List ℕ) Trouble → Type 0
-  Does r = CarriesOut tells (Save at message moment) l0 l1 d0 d1 r
+  Does r = CarriesOut tells (Save at source moment) l0 l1 d0 d1 r
 
   gave : (v : Option Id) → Saves (Ok v) → Does (Ok [])
   gave v acts = record {
@@ -101,7 +109,7 @@ module _ (at : Location) (message : List ℕ) (moment : ℕ) (root : Names) (the
     cause = tt;
     told = λ t. elim (acts.told t) [
       | inl halt ↦ absurd halt.why
-      | inr one ↦ inr (with_text [] one.0, act_at (present d0) one.0 (found t) one.1, goes_ok one.0 [] d0 d1 l0 l1 v one.2)
+      | inr one ↦ inr (with_text [] one.0, act_at t one.0 one.1, goes_ok one.0 [] d0 d1 l0 l1 v one.2)
     ];
   }
 
@@ -111,10 +119,10 @@ module _ (at : Location) (message : List ℕ) (moment : ℕ) (root : Names) (the
   pub save_failed : (t : Trouble) → Saves (Err t) → Does (Err t)
   save_failed e acts = record {
     later = acts.later;
-    cause = more_cause (Option Id) (List ℕ) (λ fault. MaySave tells root fault) (λ fault. MayAnswer tells (Save at message moment) fault) (λ fault may. inr (root, there, may)) e acts.cause;
+    cause = more_cause (Option Id) (List ℕ) (λ fault. MaySave tells root fault) (λ fault. MayAnswer tells (Save at source moment) fault) (λ fault may. inl (inr (root, there, may))) e acts.cause;
     told = λ t. elim (acts.told t) [
       | inl halt ↦ inl (record { why = same_halt (Option Id) (List ℕ) e halt.why; said = halt.said; kept = halt.kept })
-      | inr one ↦ inr (with_text [] one.0, act_at (present d0) one.0 (found t) one.1, goes_err one.0 [] d0 d1 l0 l1 e one.2)
+      | inr one ↦ inr (with_text [] one.0, act_at t one.0 one.1, goes_err one.0 [] d0 d1 l0 l1 e one.2)
     ];
   }
 
@@ -126,6 +134,10 @@ none_found at IsIts g fault none is =
 -- a root that was found is one after a reading too
 pub found_later : (at : Location) (root : Names) (old mid : Drive) → mid.history ≡ old.history → root_in at (present old) ≡ Some root → root_in at (present mid) ≡ Some root
 found_later at root old mid same is = ap (λ (h : History). root_in at h.latest.now) same ∙ is
+
+-- so is a message
+pub message_later : (source : Source) (told : Result (List ℕ) Fault) (old mid : Drive) → mid.history ≡ old.history → message_in source (present old) ≡ told → message_in source (present mid) ≡ told
+message_later source told old mid same is = ap (λ (h : History). message_in source h.latest.now) same ∙ is
 
 -- the lines of a save, after none
 pub save_lines : (before after : List Line) (v : Option Id) → before ≡ [] → SaveSays before after (Ok v) → AreSaveLines after ⊎ (after ≡ dataset_line (codes "notneeded") ∷ [])

@@ -18,7 +18,8 @@ use Rattle.datalad_cli.specs.Commands.{IsSoundLogFault, Log, LogComes, MayAnswer
 use Rattle.datalad_cli.specs.Ends.{AtEachMoment, KeepsSound}
 use Rattle.datalad_cli.specs.Finding.{Location, location_by}
 use Rattle.datalad_cli.specs.Help.{help_text, version_text}
-use Rattle.datalad_cli.specs.Words.{leads, message_by, revision_by}
+use Rattle.datalad_cli.specs.Messages.{source_by}
+use Rattle.datalad_cli.specs.Words.{leads, revision_by}
 use Rattle.datalad_cli.proofs.Kept.{create_leaves, nothing_left, save_leaves}
 use Rattle.datalad_cli.proofs.ReadActs.{read_has_one, read_refused, read_still}
 use Rattle.datalad_cli.proofs.Roots.{leads_clear}
@@ -105,13 +106,13 @@ module _ (laws : CommandLaws) (cwd : Names) (moment : ℕ) (dated : moment < 2 ^
         one = λ one two is other. is ∙ sym other;
       }
   follows (words.Save dataset message message_file recursive to_git paths) =
-      let text = message_by message in
+      let source = source_by cwd message message_file in
       let at = location_by cwd dataset in
       record {
-        leaves = λ act is m. save_leaves laws.remains at text moment old new act is m;
-        sound = λ act is. save_sound laws.kept at text moment old new act is;
-        refused = λ act fault is ends may sound. save_refused laws.complete at text moment (present old) fault (Reaches act old new) act is ends sound;
-        one = save_is_one laws.single at text moment (present old);
+        leaves = λ act is m. save_leaves laws.remains at source moment old new act is m;
+        sound = λ act is. save_sound laws.kept at source moment old new act is;
+        refused = λ act fault is ends may sound. save_refused laws.complete at source moment (present old) fault (Reaches act old new) act is ends sound;
+        one = save_is_one laws.single at source moment (present old);
       }
   follows (words.Status dataset recursive) = status_follows (location_by cwd dataset)
   follows (words.Log dataset revision) = log_follows (location_by cwd dataset) (revision_by revision)

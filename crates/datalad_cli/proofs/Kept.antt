@@ -1,5 +1,5 @@
 -- What a command leaves at every moment, from its act.
-use Rattle.std.proofs.Common.{◌≡◌, inl, ⊎_elim, ℕ, false, List, [], Option, Some, None, refl, sym, subst}
+use Rattle.std.proofs.Common.{◌≡◌, inl, ⊎_elim, ℕ, false, List, [], Option, Some, None, Result, Ok, Err, refl, sym, subst}
 use Rattle.places.specs.All.{Names, has_name, Ground, file_at}
 use Rattle.file_store.specs.All.{Drive, Since, IsImage, present, IsAlong, WasOpen}
 use Rattle.file_store.proofs.Moments.{weaken}
@@ -10,11 +10,13 @@ use Rattle.acts.specs.All.{Act, Ending, last_of, none_loose, refuses, IsFirm, Mo
 use Rattle.acts.specs.All.{IsSame, Refuses, still}
 use Rattle.recursive_save.specs.All.{new_dataset, create_step, SaveKeeps}
 use Rattle.recursive_save.proofs.Consequences.{every_moment}
+use Rattle.faults.specs.declared.faults.Fault.{Fault}
 use Rattle.faults.specs.declared.faults.Fault.TheVariants.{BadPath}
-use Rattle.datalad_cli.specs.Commands.{Create, Save, IsActIn, IsSaveAct, LeavesAt, creates, ending_with}
+use Rattle.datalad_cli.specs.Commands.{Create, Save, IsActIn, IsSaveBy, LeavesAt, creates, ending_with}
 use Rattle.datalad_cli.specs.Commands.{wish_of}
 use Rattle.datalad_cli.specs.Ends.{AtEachMoment}
 use Rattle.datalad_cli.specs.Finding.{Location, no_root, root_in}
+use Rattle.datalad_cli.specs.Messages.{Source, message_in}
 use Rattle.datalad_cli.proofs.Cuts.{cut_moments, step_moments}
 
 -- where no round is, nothing changes
@@ -55,19 +57,20 @@ module _ (at moment : ℕ) (fresh : List ℕ) (old new : Drive) where
       subst (λ (a : Act (List ℕ)). AtEachMoment (Create o at moment fresh) a old new) (sym is) (of_root o clear (subst (λ (a : Act (List ℕ)). Moments a old new) is m))
 
 -- A SAVE
-module _ (remains : SaveKeeps) (at : Location) (message : List ℕ) (moment : ℕ) (old new : Drive) where
-  abbrev Left : Option Names → Act (List ℕ) → Type 0
-  Left o act = Remains (λ Else x. LeavesAt o (last_of act (present old)) Else (present old) x) old new
+module _ (remains : SaveKeeps) (at : Location) (source : Source) (moment : ℕ) (old new : Drive) where
+  abbrev Left : Option Names → Result (List ℕ) Fault → Act (List ℕ) → Type 0
+  Left o told act = Remains (λ Else x. LeavesAt o told (last_of act (present old)) Else (present old) x) old new
 
-  left_at : (o : Option Names) (act : Act (List ℕ)) → IsActIn at (IsSaveAct (wish_of message moment) (present old)) o act → Moments act old new → Left o act
-  left_at None act is m = nothing_left (Refuses (no_root at)) act old new is m
-  left_at (Some root) act is m =
+  left_at : (o : Option Names) (told : Result (List ℕ) Fault) (act : Act (List ℕ)) → IsActIn at (IsSaveBy told moment (present old)) o act → Moments act old new → Left o told act
+  left_at None told act is m = nothing_left (Refuses (no_root at)) act old new is m
+  left_at (Some root) (Err fault) act is m = nothing_left (Refuses fault) act old new is m
+  left_at (Some root) (Ok message) act is m =
       let saved : Act (Option Id) = is.0 in
       let along : Moments saved old new = cut_moments saved (ending_with [] saved.ending) old new (subst (λ (a : Act (List ℕ)). Moments a old new) is.2 m) in
       let all = remains root (wish_of message moment) saved old new is.1 along in
-      subst (λ (a : Act (List ℕ)). Left (Some root) a) (sym is.2) (weaken (λ d both. both.0) all, weaken (λ d both. both.1) all)
+      subst (λ (a : Act (List ℕ)). Left (Some root) (Ok message) a) (sym is.2) (weaken (λ d both. both.0) all, weaken (λ d both. both.1) all)
 
-  pub save_leaves : (act : Act (List ℕ)) → IsActIn at (IsSaveAct (wish_of message moment) (present old)) (root_in at (present old)) act → Moments act old new → AtEachMoment (Save at message moment) act old new
+  pub save_leaves : (act : Act (List ℕ)) → IsActIn at (IsSaveBy (message_in source (present old)) moment (present old)) (root_in at (present old)) act → Moments act old new → AtEachMoment (Save at source moment) act old new
   save_leaves act is m =
-      let left = left_at (root_in at (present old)) act is m in
+      let left = left_at (root_in at (present old)) (message_in source (present old)) act is m in
       record { along = m; stands = left.0; images = left.1 }

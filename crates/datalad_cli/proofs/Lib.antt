@@ -4,6 +4,7 @@ pub mod CommandLaws
 pub mod Cuts
 pub mod Follows
 pub mod Kept
+pub mod Lacking
 pub mod Leads
 pub mod ReadActs
 pub mod Nearest

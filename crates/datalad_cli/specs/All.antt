@@ -5,9 +5,9 @@ pub use Rattle.datalad_cli.specs.Answered.{Answered}
 pub use Rattle.datalad_cli.specs.Codes.{code_of}
 pub use Rattle.datalad_cli.specs.Commands.{Asks, CanKeep, CarriesOut, Comes, Command, Create}
 pub use Rattle.datalad_cli.specs.Commands.{HasOneAct, HasOneReading, Help, IsActIn, IsActOf}
-pub use Rattle.datalad_cli.specs.Commands.{IsFaultIn, IsReadAct, IsReading, IsSaveAct, IsSoundFault}
-pub use Rattle.datalad_cli.specs.Commands.{IsSoundLogFault, Leaves, LeavesAt, Log, LogComes}
-pub use Rattle.datalad_cli.specs.Commands.{MayAnswer, MayIn, MaySay}
+pub use Rattle.datalad_cli.specs.Commands.{IsFaultIn, IsReadAct, IsReading, IsSaveAct, IsSaveBy}
+pub use Rattle.datalad_cli.specs.Commands.{IsSoundFault, IsSoundLogFault, Leaves, LeavesAt, Log}
+pub use Rattle.datalad_cli.specs.Commands.{LogComes, MayAnswer, MayIn, MaySay}
 pub use Rattle.datalad_cli.specs.Commands.{Misread, Reading, Save, StatusOf, Version, command_of}
 pub use Rattle.datalad_cli.specs.Commands.{creates, ending_by, ending_with, wish_of, with_text}
 pub use Rattle.datalad_cli.specs.Decides.{CommandSays, EndsCutOff, EndsSaying, HasFault, MayEnd}
@@ -22,6 +22,8 @@ pub use Rattle.datalad_cli.specs.Finding.{stands_within}
 unfoldable pub use Rattle.datalad_cli.specs.Finding.{root_at}
 unfoldable pub use Rattle.datalad_cli.specs.Help.{help_commands, help_end, help_text, help_usage}
 unfoldable pub use Rattle.datalad_cli.specs.Help.{version_text}
+pub use Rattle.datalad_cli.specs.Messages.{InFile, MayLack, MayLackAt, Source, Told, message_at}
+pub use Rattle.datalad_cli.specs.Messages.{message_in, message_limit, source_by}
 pub use Rattle.datalad_cli.specs.Reports.{Failure, HasCounted, Heard, OutputCounts, RefusalEnds}
 pub use Rattle.datalad_cli.specs.Reports.{ReportEnds, Says, SaysPart, SomeRose, StandsOrRose}
 pub use Rattle.datalad_cli.specs.Reports.{Tapes, TextEnds, TookPart, TookText, UsageEnds}

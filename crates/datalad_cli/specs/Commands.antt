@@ -25,15 +25,16 @@ use Rattle.dl_words.specs.declared.words.Words.TheVariants as words
 use Rattle.datalad_cli.specs.Answer.{Call}
 use Rattle.datalad_cli.specs.Finding.{IsRootOf, Location, location_by, no_root, root_in}
 use Rattle.datalad_cli.specs.Help.{help_text, version_text}
-use Rattle.datalad_cli.specs.Words.{leads, message_by, revision_by}
+use Rattle.datalad_cli.specs.Messages.{MayLack, Source, message_in, source_by}
+use Rattle.datalad_cli.specs.Words.{leads, revision_by}
 
 -- A command, with all that it takes from the words, the working directory, the clock and the random
 -- bytes: `create` by where its word leads, if a dataset may be made there, and by that word's
--- index; `save` by where it works, with the commit's message; `status` by that; `log` by it, with
--- the revision's word; `--help` and `--version`.
+-- index; `save` by where it works, with where the commit's message comes from; `status` by that;
+-- `log` by it, with the revision's word; `--help` and `--version`.
 pub data Command : Type 0 where
   Create : Option Names → ℕ → ℕ → List ℕ → Command
-  Save : Location → List ℕ → ℕ → Command
+  Save : Location → Source → ℕ → Command
   StatusOf : Location → Command
   Log : Location → List ℕ → Command
   Help : Command
@@ -69,6 +70,11 @@ abbrev pub IsSaveAct : SaveWish → Ground → Names → Act (List ℕ) → Type
 IsSaveAct wish g root act =
     (saved : Act (Option Id)) × IsSave root wish g saved × (act ≡ with_text [] saved)
 
+-- An act of `save` in a dataset, by what its message comes to: refused where there is none.
+abbrev pub IsSaveBy : Result (List ℕ) Fault → ℕ → Ground → Names → Act (List ℕ) → Type 0
+IsSaveBy (Ok message) moment g root act = IsSaveAct (wish_of message moment) g root act
+IsSaveBy (Err fault) moment g root act = act ≡ still (Refuses fault)
+
 -- The ending by what a reading comes to.
 abbrev pub ending_by : Result (List ℕ) Fault → Ending (List ℕ)
 ending_by (Ok text) = Gives text
@@ -97,8 +103,8 @@ IsActIn at IsIts (Some root) act = IsIts root act
 -- An act is one of the command's, at a ground.
 abbrev pub IsActOf : Command → Ground → Act (List ℕ) → Type 0
 IsActOf (Create dir at moment fresh) g act = act ≡ creates dir at moment fresh g
-IsActOf (Save at message moment) g act =
-    IsActIn at (IsSaveAct (wish_of message moment) g) (root_in at g) act
+IsActOf (Save at source moment) g act =
+    IsActIn at (IsSaveBy (message_in source g) moment g) (root_in at g) act
 IsActOf (StatusOf at) g act = IsActIn at (IsReadAct StatusEnds g) (root_in at g) act
 IsActOf (Log at word) g act =
     IsActIn at (IsReadAct (LogComes word) g) (root_in at g) act
@@ -121,8 +127,8 @@ abbrev pub MayAnswer : Bool → Command → Fault → Type 0
 MayAnswer tells (Create None at moment fresh) fault = fault ≡ BadPath at
 MayAnswer tells (Create (Some root) at moment fresh) fault =
     MayCreate tells (new_dataset root moment fresh) fault
-MayAnswer tells (Save at message moment) fault =
-    MayIn at (λ root. MaySave tells root fault) fault
+MayAnswer tells (Save at source moment) fault =
+    MayIn at (λ root. MaySave tells root fault) fault ⊎ MayLack source fault
 MayAnswer tells (StatusOf at) fault = MayIn at (λ root. MayView tells root fault) fault
 MayAnswer tells (Log at word) fault = MayIn at (λ root. MayLog (repo_of root) word fault) fault
 MayAnswer tells Help fault = ⊥
@@ -144,9 +150,9 @@ MaySay (Create None at moment fresh) lines (Err trouble) = lines ≡ []
 MaySay (Create (Some root) at moment fresh) lines (Ok text) =
     (text ≡ []) × (lines ≡ created_line root ∷ [])
 MaySay (Create (Some root) at moment fresh) lines (Err trouble) = lines ≡ []
-MaySay (Save at message moment) lines (Ok text) =
+MaySay (Save at source moment) lines (Ok text) =
     (text ≡ []) × (AreSaveLines lines ⊎ (lines ≡ dataset_line (codes "notneeded") ∷ []))
-MaySay (Save at message moment) lines (Err trouble) = lines ≡ []
+MaySay (Save at source moment) lines (Err trouble) = lines ≡ []
 MaySay (StatusOf at) lines (Ok text) = IsStatusText text × (lines ≡ [])
 MaySay (StatusOf at) lines (Err trouble) = lines ≡ []
 MaySay (Log at word) lines (Ok text) = IsLogText text × (lines ≡ [])
@@ -156,12 +162,13 @@ MaySay Help lines (Err trouble) = lines ≡ []
 MaySay Version lines (Ok text) = (text ≡ version_text) × (lines ≡ [])
 MaySay Version lines (Err trouble) = lines ≡ []
 
--- What a save leaves, by the root of the dataset in which it works: nothing has changed where there
--- is none.
-abbrev pub LeavesAt : Option Names → Ground → (Names → Option (List ℕ) → Type 0) → Ground → Ground
-    → Type 0
-LeavesAt None end Else g x = IsSame Else g x
-LeavesAt (Some root) end Else g x = SaveRemains root end Else g x
+-- What a save leaves, by the root of the dataset in which it works and what its message comes to:
+-- nothing has changed where one of them is none.
+abbrev pub LeavesAt : Option Names → Result (List ℕ) Fault → Ground
+    → (Names → Option (List ℕ) → Type 0) → Ground → Ground → Type 0
+LeavesAt None message end Else g x = IsSame Else g x
+LeavesAt (Some root) (Err fault) end Else g x = IsSame Else g x
+LeavesAt (Some root) (Ok message) end Else g x = SaveRemains root end Else g x
 
 -- What is left of the ground g at the start, however far a command came: x is what stands, or what
 -- a crash leaves, `end` the ground to which the command's act comes, and at a place that was open
@@ -170,7 +177,8 @@ abbrev pub Leaves : Command → Ground → (Names → Option (List ℕ) → Type
 Leaves (Create None at moment fresh) end Else g x = IsSame Else g x
 Leaves (Create (Some root) at moment fresh) end Else g x =
     CreateRemains (new_dataset root moment fresh) Else g x
-Leaves (Save at message moment) end Else g x = LeavesAt (root_in at g) end Else g x
+Leaves (Save at source moment) end Else g x =
+    LeavesAt (root_in at g) (message_in source g) end Else g x
 Leaves (StatusOf at) end Else g x = IsSame Else g x
 Leaves (Log at word) end Else g x = IsSame Else g x
 Leaves Help end Else g x = IsSame Else g x
@@ -182,7 +190,7 @@ abbrev pub CanKeep : Command → Type 0
 CanKeep (Create None at moment fresh) = Unit {0}
 CanKeep (Create (Some root) at moment fresh) =
     NoneCollide (repo_of root) (new_parts (new_dataset root moment fresh)).objects
-CanKeep (Save at message moment) = Unit {0}
+CanKeep (Save at source moment) = Unit {0}
 CanKeep (StatusOf at) = Unit {0}
 CanKeep (Log at word) = Unit {0}
 CanKeep Help = Unit {0}
@@ -204,8 +212,8 @@ IsSoundLogFault word g root fault =
 abbrev pub IsSoundFault : Command → Ground → Fault → Type 0
 IsSoundFault (Create dir at moment fresh) g fault =
     MayAnswer true (Create dir at moment fresh) fault
-IsSoundFault (Save at message moment) g fault =
-    IsFaultIn at (λ root. IsSoundRefusal fault) (root_in at g) fault
+IsSoundFault (Save at source moment) g fault =
+    IsFaultIn at (λ root. MayLack source fault ⊎ IsSoundRefusal fault) (root_in at g) fault
 IsSoundFault (StatusOf at) g fault =
     IsFaultIn at (λ root. IsSoundNoStatus fault) (root_in at g) fault
 IsSoundFault (Log at word) g fault =
@@ -225,7 +233,7 @@ abbrev pub command_of : Names → ℕ → List ℕ → Words → Command
 command_of cwd moment fresh (words.Create dataset path) =
     Create (leads cwd path.text) path.index moment fresh
 command_of cwd moment fresh (words.Save dataset message message_file recursive to_git paths) =
-    Save (location_by cwd dataset) (message_by message) moment
+    Save (location_by cwd dataset) (source_by cwd message message_file) moment
 command_of cwd moment fresh (words.Status dataset recursive) = StatusOf (location_by cwd dataset)
 command_of cwd moment fresh (words.Log dataset revision) =
     Log (location_by cwd dataset) (revision_by revision)

@@ -7,5 +7,6 @@ pub mod Decides
 pub mod Ends
 pub mod Finding
 pub mod Help
+pub mod Messages
 pub mod Reports
 pub mod Words

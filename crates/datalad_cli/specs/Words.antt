@@ -6,9 +6,9 @@ use Rattle.places.specs.All.{Names, is_name, text_of, target, has_name, longest}
 use Rattle.repository.specs.All.{dlrepo}
 use Rattle.dl_words.specs.declared.words.Word.{Word}
 
--- The message of a commit: the word, with a newline added where it doesn't end in one.
+-- The message of a commit: the text, with a newline added where it doesn't end in one.
 unfoldable pub message_of : List ℕ → List ℕ
-message_of word = if ends_with nat_eq word (codes "\n") then word else word ++ codes "\n"
+message_of text = if ends_with nat_eq text (codes "\n") then text else text ++ codes "\n"
 
 -- The message of a save that is given none.
 unfoldable pub default_message : List ℕ

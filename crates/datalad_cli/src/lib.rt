@@ -4,6 +4,7 @@
 mod ended;
 mod finding;
 mod help;
+mod messages;
 mod reporting;
 mod status;
 mod top;

@@ -11,13 +11,15 @@ ghost use Rattle.datalad_cli.specs.Commands.{CarriesOut, Create, Log, MayAnswer,
 ghost use Rattle.datalad_cli.specs.Commands.{StatusOf, command_of, creates};
 ghost use Rattle.datalad_cli.specs.Ends.{telling_of, world_of};
 ghost use Rattle.datalad_cli.specs.Finding.{location_by};
-ghost use Rattle.datalad_cli.specs.Words.{leads, message_by, revision_by};
+ghost use Rattle.datalad_cli.specs.Messages.{source_by};
+ghost use Rattle.datalad_cli.specs.Words.{leads, revision_by};
 
 use crate::finding::{bad_path, find_root, repo_within};
 use crate::help::{help, version};
+use crate::messages::find_message;
 use crate::reporting::{report, say_usage, starved};
 use crate::status::Status;
-use crate::words::{message_by, revision_by, root_of};
+use crate::words::{revision_by, root_of};
 use dl_words::{Word, Words, WordsErr, ends_once, have_meaning, is_built, one_meaning, read_words};
 use faults::{Line, Trouble};
 use file_store::{Bytes, Files, Place, Sink};
@@ -62,23 +64,26 @@ fn create_at<F: Files>(
     }
 }
 
-// `save`, by the words that may name a dataset and give a message.
+// `save`, by the words that may name a dataset, give a message and name its file.
 fn save_at<F: Files>(
     alloc: Global,
     files: &mut F,
     cwd: &Place,
     dataset: &Option<Word>,
     word: &Option<Word>,
+    file: &Option<Word>,
     moment: u64,
     lines: &mut Vec<Line>,
 ) -> Result<Bytes, Trouble>
     requires { lines.old.items ≡ [] }
-    ensures says { MaySay (Save (location_by cwd.now dataset.now) (message_by word.now) moment) lines.new.items result }
-    ensures acts { CarriesOut F.tells (Save (location_by cwd.now dataset.now) (message_by word.now) moment)
-        lines.old.items lines.new.items (F.drive files.old) (F.drive files.new) result }
+    ensures says { let source = source_by cwd.now word.now file.now in
+        MaySay (Save (location_by cwd.now dataset.now) source moment) lines.new.items result }
+    ensures acts { let source = source_by cwd.now word.now file.now in
+        CarriesOut F.tells (Save (location_by cwd.now dataset.now) source moment) lines.old.items lines.new.items
+        (F.drive files.old) (F.drive files.new) result }
 {
-    let message = message_by(alloc, word)?;
     let root = find_root(alloc, files, cwd, dataset)?;
+    let message = find_message(alloc, files, cwd, word, file)?;
     let wish = SaveWish { message, moment };
     save(alloc, files, &root, &wish, lines)?;
     Ok(no_text(alloc))
@@ -144,8 +149,9 @@ fn act<F: Files>(
         Words::Save {
             dataset,
             message,
+            message_file,
             ..
-        } => { save_at(alloc, files, cwd, dataset, message, moment, lines) }
+        } => { save_at(alloc, files, cwd, dataset, message, message_file, moment, lines) }
         Words::Status { dataset, .. } => status_at(alloc, files, cwd, dataset, lines),
         Words::Log { dataset, revision } => log_at(alloc, files, cwd, dataset, revision, lines),
         Words::Version => Ok(version(alloc)?),

@@ -8,12 +8,13 @@ use dl_words::Word;
 use file_store::{Bytes, Place, PlaceErr};
 use std::alloc::{AllocError, Global};
 
+/// The message of a commit, by the bytes of its text.
 #[tactic(auto, unfolding(crate::specs::Words::message_of))]
-fn message_of(alloc: Global, word: &str) -> Result<Bytes, AllocError>
-    ensures { IfOk result (λ message. message ≡ message_of word.now) }
+pub(crate) fn message_of(text: Vec<u8>) -> Result<Bytes, AllocError>
+    ensures { IfOk result (λ message. message ≡ message_of text.items) }
 {
-    let mut bytes = Vec::from_slice(alloc, word.as_bytes())?;
-    if !word.as_bytes().ends_with(b"\n") {
+    let mut bytes = text;
+    if !bytes.as_slice().ends_with(b"\n") {
         bytes.push(b'\n')?;
     }
     Ok(Bytes::new(bytes))
@@ -38,7 +39,7 @@ pub(crate) fn message_by(alloc: Global, word: &Option<Word>) -> Result<Bytes, Al
 {
     match word {
         None => default_message(alloc),
-        Some(word) => message_of(alloc, word.text.as_str()),
+        Some(word) => message_of(Vec::from_slice(alloc, word.text.as_str().as_bytes())?),
     }
 }
 

@@ -11,12 +11,11 @@ pub fn is_built(words: &Words) -> bool
     match words {
         Words::Create { dataset, .. } => dataset.is_none(),
         Words::Save {
-            message_file,
             recursive,
             to_git,
             paths,
             ..
-        } => { message_file.is_none() && !*recursive && *to_git && paths.as_slice().is_empty() }
+        } => { !*recursive && *to_git && paths.as_slice().is_empty() }
         Words::Status { recursive, .. } => !*recursive,
         Words::Log { .. } | Words::Help | Words::Version => true,
         _ => false,

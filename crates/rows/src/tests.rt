@@ -6,6 +6,7 @@ mod devices;
 mod files;
 mod help;
 mod logs;
+mod messages;
 mod refusals;
 mod save_refusals;
 mod save_stops;

@@ -126,14 +126,16 @@ const OF_RUNS_AND_SETTINGS: [(&str, &str); 38] = [
 ];
 
 // Whether what the words ask for is built.
-const BUILT: [(&str, bool); 25] = [
+const BUILT: [(&str, bool); 27] = [
     ("create^x", true),
     ("create^-d^a^x", false),
     ("save^--to-git", true),
     ("save^-m^a^--to-git", true),
     ("save^-m^a", false),
     ("save^-m^a^--to-git^x", false),
-    ("save^--to-git^-F^f", false),
+    ("save^--to-git^-F^f", true),
+    ("save^-Ff^--to-git^-d^x", true),
+    ("save^-F^f", false),
     ("save^--to-git^-r", false),
     ("save^--to-git^-d^x", true),
     ("log", true),
