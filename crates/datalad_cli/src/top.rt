@@ -151,7 +151,18 @@ fn act<F: Files>(
             message,
             message_file,
             ..
-        } => { save_at(alloc, files, cwd, dataset, message, message_file, moment, lines) }
+        } => {
+            save_at(
+                alloc,
+                files,
+                cwd,
+                dataset,
+                message,
+                message_file,
+                moment,
+                lines,
+            )
+        }
         Words::Status { dataset, .. } => status_at(alloc, files, cwd, dataset, lines),
         Words::Log { dataset, revision } => log_at(alloc, files, cwd, dataset, revision, lines),
         Words::Version => Ok(version(alloc)?),

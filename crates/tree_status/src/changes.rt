@@ -91,11 +91,7 @@ pub fn deleted_entries<'a>(
 }
 
 /// Whether anything has changed.
-pub fn is_changed(
-    alloc: Global,
-    old: &Snapshot,
-    files: &[WorkingFile],
-) -> Result<bool, AllocError>
+pub fn is_changed(alloc: Global, old: &Snapshot, files: &[WorkingFile]) -> Result<bool, AllocError>
     ensures { (work : List WorkFile) → files.now ≡ as_files work → IfOk result
         (λ changed. changed ≡ is_changed old.now work) }
 {

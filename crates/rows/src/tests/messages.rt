@@ -108,10 +108,7 @@ fn lacks_a_message(rt: HostRuntime) {
             "datalad: no such path: /w/ds/.datalad\n",
         ),
         ("save -F  --to-git", "datalad: bad path in word 2\n"),
-        (
-            "save -d x -F  --to-git",
-            "datalad: no dataset at /w/ds/x\n",
-        ),
+        ("save -d x -F  --to-git", "datalad: no dataset at /w/ds/x\n"),
     ] {
         is_refused(&rt, alloc, &mut files, "/w/ds", words, err);
     }
