@@ -7,8 +7,9 @@ pub use Rattle.datalad_cli.specs.Commands.{Asks, CanKeep, CarriesOut, Comes, Com
 pub use Rattle.datalad_cli.specs.Commands.{HasOneAct, HasOneReading, Help, IsActIn, IsActOf}
 pub use Rattle.datalad_cli.specs.Commands.{IsReadAct, IsReading, IsSaveAct, IsSaveBy, IsSoundFault}
 pub use Rattle.datalad_cli.specs.Commands.{Leaves, LeavesAt, Log, LogComes, MayAnswer, MayIn}
-pub use Rattle.datalad_cli.specs.Commands.{MaySay, Misread, Reading, Save, StatusOf, Version, command_of}
-pub use Rattle.datalad_cli.specs.Commands.{creates, ending_by, ending_with, wish_of, with_text}
+pub use Rattle.datalad_cli.specs.Commands.{MaySay, Misread, Reading, Save, StatusOf, Version}
+pub use Rattle.datalad_cli.specs.Commands.{command_of, creates, ending_by, ending_with, wish_of}
+pub use Rattle.datalad_cli.specs.Commands.{with_text}
 pub use Rattle.datalad_cli.specs.Decides.{CommandSays, EndsCutOff, EndsSaying, HasFault, MayEnd}
 pub use Rattle.datalad_cli.specs.Decides.{WordsDecide}
 pub use Rattle.datalad_cli.specs.Ends.{AtEachMoment, CommandEnds, EndsHalted, KeepsSound}
