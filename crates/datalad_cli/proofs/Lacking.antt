@@ -1,9 +1,9 @@
 -- Why a message lacks.
-use Rattle.std.proofs.Common.{◌≡◌, ◌<◌, ℕ, Bool, true, false, cond, nat_lt, List, length, Option, Some, None, Result, Ok, Err, refl, sym, ap, ◌∙◌, subst}
+use Rattle.std.proofs.Common.{◌≡◌, ℕ, Bool, true, false, cond, nat_lt, List, length, Option, Some, None, Result, Ok, Err, refl, sym, subst}
 use Rattle.std.proofs.lemmas.Bool.{ltb-true}
 use Rattle.places.specs.All.{Names, Ground, file_at, text_of}
 use Rattle.faults.specs.declared.faults.Fault.{Fault}
-use Rattle.faults.specs.declared.faults.Fault.TheVariants.{BadPath, PathUnknown, TooLarge}
+use Rattle.faults.specs.declared.faults.Fault.TheVariants.{TooLarge}
 use Rattle.datalad_cli.specs.Messages.{InFile, MayLack, MayLackAt, Source, Told, message_at, message_in, message_limit}
 use Rattle.datalad_cli.specs.Words.{message_of}
 
