@@ -29,6 +29,7 @@ use Rattle.recursive_save.specs.Saving.{MaySave, IsSave, unread, clean, unplanne
 use Rattle.recursive_save.specs.Saving.{clash_with, clash_fault, dataset_line, saves, saves_nothing}
 use Rattle.recursive_save.specs.Saving.{writes}
 use Rattle.tree_status.specs.All.{IsUnread, IsView, MayView, IsRepo, is_changed, working}
+use Rattle.tree_status.proofs.Statuses.{long_seen}
 use Rattle.recursive_save.proofs.Handed.{as_put}
 use Rattle.recursive_save.specs.Planned.{IsPlannedOf, IsPlanRefusal, MayPlan, plan_of}
 use Rattle.recursive_save.specs.declared.planning.Planned.{Planned}
@@ -94,7 +95,7 @@ put_may tells root objects fault may = among (MaySave tells root fault) (repo_of
 tip_may : (tells : Bool) (root : Names) (fault : Fault) → MaySetTip tells (repo_of root) fault → MaySave tells root fault
 tip_may tells root (Damaged place) may = inl (None, tt, may)
 tip_may tells root (TooLarge path size) (inl over) = inl (inl (repo_head (repo_of root), (None, tt, refl), over))
-tip_may tells root (TooLarge path size) (inr over) = inr (inr (inr (inr over)))
+tip_may tells root (TooLarge path size) (inr over) = inr (inr (inr over))
 tip_may tells root (Blocked at) may = may
 tip_may tells root fault may = absurd may
 

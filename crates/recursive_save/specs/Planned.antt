@@ -1,5 +1,5 @@
 -- The plan of a save, as the program has it.
-use Rattle.std.specs.Prelude.{◌≡◌, ℕ, Bool, IsTrue, List, [], ◌∷◌, ◌++◌, Some, None, codes}
+use Rattle.std.specs.Prelude.{◌≡◌, ◌⊎◌, ◌<◌, ℕ, Bool, IsTrue, List, [], ◌∷◌, ◌++◌, Some, None, codes}
 use Rattle.places.specs.All.{Names, Ground}
 use Rattle.faults.specs.declared.faults.Fault.{Fault}
 use Rattle.faults.specs.declared.faults.Trouble.{Trouble}
@@ -12,8 +12,10 @@ use Rattle.repository.specs.All.{settings_place}
 use Rattle.object_store.specs.declared.objects.NewObject.{NewObject}
 use Rattle.snapshot.specs.All.{IsBuilt, IsLeastClash}
 use Rattle.tree_status.specs.All.{as_files, WorkFile, new_entries, IsView}
+use Rattle.recursive_save.specs.Configured.{MayConfigure}
 use Rattle.recursive_save.specs.Lines.{change_lines}
-use Rattle.recursive_save.specs.Saving.{SavePlan, IsSavePlan, plan_fault, save_commit, dataset_line}
+use Rattle.recursive_save.specs.Saving.{SavePlan, IsSavePlan, blobs_limit, plan_fault, save_commit}
+use Rattle.recursive_save.specs.Saving.{dataset_line}
 use Rattle.recursive_save.specs.declared.planning.Planned.{Planned}
 use Rattle.tree_status.specs.declared.viewing.View.{View}
 use Rattle.recursive_save.specs.declared.wishes.SaveWish.{SaveWish}

@@ -14,7 +14,7 @@ use Rattle.acts.specs.All.{Act, Ending, Gives, Refuses, Breaks, Moments, last_of
 use Rattle.acts.specs.All.{OldOrNew, NewWithAll}
 use Rattle.ref_store.specs.All.{IsTipPlace}
 use Rattle.dataset.specs.All.{Sound, IsDataset}
-use Rattle.recursive_save.specs.Lines.{change_line}
+use Rattle.recursive_save.specs.Lines.{AreChangeLines}
 use Rattle.recursive_save.specs.Remains.{HeldStay, SameOutside}
 use Rattle.recursive_save.specs.Saving.{IsSave, dataset_line}
 use Rattle.tree_status.specs.declared.states.Change.{Change}

@@ -15,7 +15,7 @@ use Rattle.git_objects.specs.declared.objects.ObjKind.TheVariants.{Commit}
 use Rattle.config_text.specs.All.{PlainConfig, config_in}
 use Rattle.repository.specs.All.{repo_of, settings_place, object_place}
 use Rattle.acts.specs.All.{Act, Step, still, Refuses, gives, says, unless, bind, each}
-use Rattle.object_store.specs.All.{object_text, puts_objects}
+use Rattle.object_store.specs.All.{IsTooLong, object_text, puts_objects}
 use Rattle.object_store.specs.declared.objects.NewObject.{NewObject}
 use Rattle.ref_store.specs.All.{tip_fault, IsTipAt, IsTipPlace, sets_tip}
 use Rattle.snapshot.specs.All.{IsFlat, IsFlattenFault, IsBuilt}
@@ -23,7 +23,7 @@ use Rattle.snapshot.specs.declared.entries.Entry.{Entry}
 use Rattle.snapshot.specs.declared.entries.Leaf.{Leaf}
 use Rattle.snapshot.specs.declared.entries.Leaf.TheVariants.{Git, Link, Pin}
 use Rattle.tree_status.specs.All.{walk_fault, working, WorkFile, new_entries, added, is_changed}
-use Rattle.tree_status.specs.All.{new_blobs}
+use Rattle.tree_status.specs.All.{HasPlace, IsOverToView, IsRead, IsUnread, new_blobs}
 use Rattle.recursive_save.specs.Lines.{change_lines}
 use Rattle.recursive_save.specs.declared.wishes.SaveWish.{SaveWish}
 
