@@ -1,9 +1,10 @@
 // A key: size, digest and extension of a content.
-ghost use Rattle.std.specs.Prelude.{◌≡◌, IsUtf8};
+ghost use Rattle.std.specs.Prelude.{◌≡◌, IfOk, IsUtf8};
 ghost use Rattle.annex_keys.specs.Extensions.{IsExt};
 ghost use Rattle.annex_keys.specs.Keys.{IsDigest};
 
 use places::Text;
+use std::alloc::{AllocError, Global};
 use std::marker::Model;
 
 /// How a key is computed.
@@ -80,5 +81,12 @@ impl Key {
         ensures extended { IsExt self.now.ext }
     {
         self.ext.as_str()
+    }
+
+    pub fn try_clone(&self, alloc: Global) -> Result<Key, AllocError>
+        ensures { IfOk result (λ key. key ≡ self.now) }
+    {
+        let ext = String::from_str(alloc, self.ext.as_str())?;
+        Ok(Key::new(self.backend, self.size, self.digest, Text::new(ext)))
     }
 }

@@ -1,7 +1,7 @@
 -- Places that are longer than places are, files that are larger than they may be, and the refusals of both.
 use Rattle.std.proofs.Common.{◌≡◌, ◌≤◌, ◌<◌, ℕ, Bool, true, false, cond, List, length, Some, None, refl, sym, ap, subst, ◌∙◌, arith}
 use Rattle.std.specs.Prelude.{nat_lt}
-use Rattle.std.proofs.lemmas.Bool.{lt-ltb, le-ltb, ltb-true}
+use Rattle.std.proofs.lemmas.Bool.{lt-ltb, le-ltb, ltb-false, ltb-true}
 use Rattle.places.specs.All.{Names, text_of, longest}
 use Rattle.faults.specs.declared.faults.Fault.{Fault}
 use Rattle.faults.specs.declared.faults.Fault.TheVariants.{TooLarge}
@@ -32,3 +32,11 @@ over_is place limit size lt = ap (λ b. cond b (Some (TooLarge (text_of place) s
 
 pub within_is : (place : Names) (limit size : ℕ) → size ≤ limit → over_fault place limit size ≡ None
 within_is place limit size le = ap (λ b. cond b (Some (TooLarge (text_of place) size)) None) (le-ltb limit size le)
+
+-- a place that isn't too long
+pub short_is : (place : Names) → long_place place ≡ None → length (text_of place) ≤ longest
+short_is place e = by (nat_lt longest (length (text_of place))) refl e
+  where
+    by : (b : Bool) → nat_lt longest (length (text_of place)) ≡ b → cond b (large place) None ≡ None → length (text_of place) ≤ longest
+    by true is k = absurd (cc k)
+    by false is k = ltb-false longest (length (text_of place)) is

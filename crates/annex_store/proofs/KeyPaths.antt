@@ -1,5 +1,5 @@
 -- The paths of contents and logs are paths of names, and short.
-use Rattle.std.proofs.Common.{◌≡◌, ℕ, zero, suc, ◌*◌, ◌/◌, ◌%◌, ◌<◌, ◌≤◌, ◌^◌, ◌==◌, Bool, true, false, not, ◌&&◌, List, [], ◌∷◌, ◌++◌, length, take, drop, refl, sym, subst, ap, ◌∙◌, arith, append_assoc, append-nil, codes, length-append, length-drop}
+use Rattle.std.proofs.Common.{◌≡◌, ◌+◌, ℕ, zero, suc, ◌*◌, ◌/◌, ◌%◌, ◌<◌, ◌≤◌, ◌^◌, ◌==◌, Bool, true, false, not, ◌&&◌, List, [], ◌∷◌, ◌++◌, length, take, drop, refl, sym, subst, ap, ◌∙◌, arith, append_assoc, append-nil, codes, length-append, length-drop}
 use Rattle.std.specs.Prelude.{decimal, nat_le, nat_lt, bytes_eq, slice_index}
 use Rattle.std.specs.Char.{is_ascii_alphanumeric, is_ascii_digit}
 use Rattle.std.specs.Int.{to_le_bytes, bytes_low_first, byte_at, w32}
@@ -272,3 +272,8 @@ pub log_path_size : (key : PlainKey) → IsKey key → length (log_path key) ≤
 log_path_size key h =
     let name = (log_file key h).size in
     omega (arith, name, dir_size key, length-append (hash_dir key) (47 ∷ log_name key))
+
+-- the path of the content is shorter by one than that of the log
+pub content_beside_log : (key : PlainKey) → length (content_path key) + 1 ≡ length (log_path key)
+content_beside_log key =
+    omega (arith, length-append (hash_dir key) (47 ∷ key_text key), length-append (hash_dir key) (47 ∷ log_name key), length-append (key_text key) (codes ".log"))

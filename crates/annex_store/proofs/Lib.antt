@@ -1,5 +1,10 @@
+mod Firsts
 pub mod Fitting
 pub mod Honest
-pub mod KeyPaths
 pub mod Keeps
+pub mod KeyPaths
+mod KeptAll
+mod Laid
+mod Notes
 pub mod Sets
+mod Stored

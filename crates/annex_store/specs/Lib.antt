@@ -2,7 +2,11 @@ pub mod All
 pub mod Contents
 pub mod Honest
 pub mod Keeping
+pub mod KeepingAll
 pub mod Layout
 pub mod Logs
+pub mod Members
+pub mod Noting
 pub mod Places
 pub mod Setting
+pub mod Storing

@@ -24,8 +24,8 @@ pub fn has<F: Files>(alloc: Global, files: &mut F, repo: &Place, key: &Key) -> R
     }
 }
 
-// The bytes of the file at this place, where they match the key.
-fn read_file<F: Files>(
+/// The bytes of the file at this place, where they match the key.
+pub(crate) fn read_file<F: Files>(
     alloc: Global,
     files: &mut F,
     place: &Place,

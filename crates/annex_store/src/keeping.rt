@@ -64,8 +64,8 @@ fn set_content<F: Files>(
     Ok(())
 }
 
-// The lines that say that the repository has the content, None where the log does.
-fn noted(
+/// The lines that say that the repository has the content, None where the log does.
+pub(crate) fn noted(
     alloc: Global,
     key: &Key,
     lines: &[LogLine],

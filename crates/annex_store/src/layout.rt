@@ -1,10 +1,10 @@
 // Where the content and the log of a key stand.
-ghost use Rattle.std.specs.Prelude.{◌≡◌, ◌≤◌, ◌++◌, IsTrue, IfOk, OnOk, length, string_bytes};
+ghost use Rattle.std.specs.Prelude.{◌≡◌, ◌≤◌, ◌++◌, IsTrue, IfOk, None, OnOk, length, string_bytes};
 ghost use Rattle.places.specs.All.{is_path, pieces, text_of};
 ghost use Rattle.annex_keys.specs.All.{IsKey, hash_dir, key_text};
 ghost use Rattle.repository.specs.All.{repo_limit};
 ghost use Rattle.annex_store.specs.Layout.{content_place, log_place};
-ghost use Rattle.annex_store.specs.Places.{IsPlaced, content_path, log_path};
+ghost use Rattle.annex_store.specs.Places.{IsPlaced, content_path, log_path, long_place};
 
 use annex_keys::{Key, hash_dir, to_text};
 use faults::Trouble;
@@ -101,6 +101,19 @@ pub(crate) fn short_content_place(
     key: &Key,
 ) -> Result<Place, AllocError>
     requires { length (text_of repo.now) ≤ repo_limit }
+    ensures { IfOk result (λ place. place ≡ content_place repo.now key.now) }
+{
+    let path = content_path(alloc, key)?;
+    repo.below(alloc, path.as_str())
+}
+
+/// Where the content of a key stands whose log has a place: its place is shorter by a byte.
+pub(crate) fn near_content_place(
+    alloc: Global,
+    repo: &Place,
+    key: &Key,
+) -> Result<Place, AllocError>
+    requires { long_place (log_place repo.now key.now) ≡ None }
     ensures { IfOk result (λ place. place ≡ content_place repo.now key.now) }
 {
     let path = content_path(alloc, key)?;

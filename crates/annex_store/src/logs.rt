@@ -43,8 +43,12 @@ fn take_lines(alloc: Global, place: &Place, text: &[u8]) -> Result<Vec<LogLine>,
     }
 }
 
-// The lines of the log at this place.
-fn read_log<F: Files>(alloc: Global, files: &mut F, place: &Place) -> Result<Vec<LogLine>, Trouble>
+/// The lines of the log at this place.
+pub(crate) fn read_log<F: Files>(
+    alloc: Global,
+    files: &mut F,
+    place: &Place,
+) -> Result<Vec<LogLine>, Trouble>
     ensures { LogFileReads F.tells place.now (F.drive files.old) (F.drive files.new) result }
 {
     let Some(text) = read_text(alloc, files, place)? else {

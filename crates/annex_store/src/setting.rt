@@ -15,8 +15,8 @@ use location_log::{LogLine, print};
 use repository::{REPO_LIMIT, repo_too_large, tmp_place};
 use std::alloc::{AllocError, Global};
 
-// The text of a log.
-fn log_text(alloc: Global, lines: &[LogLine]) -> Result<Vec<u8>, AllocError>
+/// The text of a log.
+pub(crate) fn log_text(alloc: Global, lines: &[LogLine]) -> Result<Vec<u8>, AllocError>
     ensures { IfOk result (λ text. text.items ≡ log_text lines.now) }
 {
     match print(alloc, lines) {

@@ -9,24 +9,24 @@ use std::alloc::Global;
 use std::process::Abort;
 use uuid::Uuid;
 
-const REPO: &str = "/r/.dlrepo";
+pub(crate) const REPO: &str = "/r/.dlrepo";
 
 // `printf 'hello\n' | sha256sum`
-const KEY: &str =
+pub(crate) const KEY: &str =
     "SHA256E-s6--5891b5b522d5df086d0ff0b110fbd9d21bb4fc7163af34d08286a2e846f6be03.txt";
 
 // The first six digits of the MD5 of that text are d91b11.
-const CONTENT: &str =
+pub(crate) const CONTENT: &str =
     "/r/.dlrepo/annex/objects/d91/b11/SHA256E-s6--5891b5b522d5df086d0ff0b110fbd9d21bb4fc7163af34d08286a2e846f6be03.txt";
 
-const LOG: &str =
+pub(crate) const LOG: &str =
     "/r/.dlrepo/annex/logs/d91/b11/SHA256E-s6--5891b5b522d5df086d0ff0b110fbd9d21bb4fc7163af34d08286a2e846f6be03.txt.log";
 
-const OWN: &str = "490cbdc2-0d82-5cbd-94d8-aba5bedae8d0";
+pub(crate) const OWN: &str = "490cbdc2-0d82-5cbd-94d8-aba5bedae8d0";
 
 const OTHER: &str = "5s 1 01234567-89ab-5cde-8f01-23456789abcd\n";
 
-fn place(rt: &impl Abort, alloc: Global, text: &str) -> Place {
+pub(crate) fn place(rt: &impl Abort, alloc: Global, text: &str) -> Place {
     Place::parse(alloc, text).expect(rt, "a place")
 }
 
@@ -34,7 +34,7 @@ fn key(rt: &impl Abort, alloc: Global) -> Key {
     from_text(alloc, KEY).expect(rt, "a key")
 }
 
-fn own(rt: &impl Abort) -> Uuid {
+pub(crate) fn own(rt: &impl Abort) -> Uuid {
     Uuid::try_parse_ascii(OWN.as_bytes()).expect(rt, "a uuid")
 }
 
@@ -87,18 +87,18 @@ fn keep_hello(rt: &impl Abort, alloc: Global, files: &mut MemFiles) -> Result<()
 }
 
 // The fault of a refusal.
-fn fault<T: Drop>(rt: &impl Abort, end: Result<T, Trouble>) -> Fault {
+pub(crate) fn fault<T: Drop>(rt: &impl Abort, end: Result<T, Trouble>) -> Fault {
     match end {
         Err(Trouble::Refused(fault)) => fault,
         _ => rt.abort(),
     }
 }
 
-fn is_text(rt: &impl Abort, got: &str, want: &str) {
+pub(crate) fn is_text(rt: &impl Abort, got: &str, want: &str) {
     assert_eq!(rt; got, want);
 }
 
-fn is_number(rt: &impl Abort, got: u64, want: u64) {
+pub(crate) fn is_number(rt: &impl Abort, got: u64, want: u64) {
     assert_eq!(rt; got, want);
 }
 
@@ -114,7 +114,7 @@ fn told_line(rt: &impl Abort, place: &str, line: u64, want: u64) {
     is_number(rt, line, want);
 }
 
-fn is_bad(rt: &impl Abort, fault: Fault, want: u64) {
+pub(crate) fn is_bad(rt: &impl Abort, fault: Fault, want: u64) {
     match fault {
         Fault::BadLog { place, line } => told_line(rt, place.as_str(), line, want),
         _ => rt.abort(),
