@@ -86,22 +86,22 @@ same_halt V W Device h = h
 same_halt V W NoMemory h = h
 
 -- an act of `save` at the root that was found, by what its message came to
-pub act_by : (at : Location) (source : Source) (moment : ℕ) (root : Names) (told : Result (List ℕ) Fault) (g : Ground) (act : Act (List ℕ))
-    → root_in at g ≡ Some root → message_in source g ≡ told → IsSaveBy told moment g root act → IsActOf (Save at source moment) g act
-act_by at source moment root told g act found from is =
-    subst (λ (o : Option Names). IsActIn at (IsSaveBy (message_in source g) moment g) o act) (sym found)
-    (subst (λ (told : Result (List ℕ) Fault). IsSaveBy told moment g root act) (sym from) is)
+pub act_by : (at : Location) (source : Source) (to_git : Bool) (moment : ℕ) (root : Names) (told : Result (List ℕ) Fault) (g : Ground) (act : Act (List ℕ))
+    → root_in at g ≡ Some root → message_in source g ≡ told → IsSaveBy told to_git moment g root act → IsActOf (Save at source to_git moment) g act
+act_by at source to_git moment root told g act found from is =
+    subst (λ (o : Option Names). IsActIn at (IsSaveBy (message_in source g) to_git moment g) o act) (sym found)
+    (subst (λ (told : Result (List ℕ) Fault). IsSaveBy told to_git moment g root act) (sym from) is)
 
-module _ (at : Location) (source : Source) (moment : ℕ) (root : Names) (message : List ℕ) (there : IsRootOf at root) (tells : Bool) (l0 l1 : List Line) (d0 d1 : Drive)
+module _ (at : Location) (source : Source) (to_git : Bool) (moment : ℕ) (root : Names) (message : List ℕ) (there : IsRootOf at root) (tells : Bool) (l0 l1 : List Line) (d0 d1 : Drive)
     (found : IsTrue tells → root_in at (present d0) ≡ Some root) (from : IsTrue tells → message_in source (present d0) ≡ Ok message) where
-  act_at : IsTrue tells → (saved : Act (Option Id)) → IsSave root (wish_of message moment) (present d0) saved → IsActOf (Save at source moment) (present d0) (with_text [] saved)
-  act_at t saved one = act_by at source moment root (Ok message) (present d0) (with_text [] saved) (found t) (from t) (saved, one, refl)
+  act_at : IsTrue tells → (saved : Act (Option Id)) → IsSave root (wish_of message to_git moment) (present d0) saved → IsActOf (Save at source to_git moment) (present d0) (with_text [] saved)
+  act_at t saved one = act_by at source to_git moment root (Ok message) (present d0) (with_text [] saved) (found t) (from t) (saved, one, refl)
 
   abbrev Saves : Result (Option Id) Trouble → Type 0
-  Saves r = ActsAs (λ fault. MaySave tells root fault) tells (λ g act. IsSave root (wish_of message moment) g act) l0 l1 d0 d1 r
+  Saves r = ActsAs (λ fault. MaySave tells root fault) tells (λ g act. IsSave root (wish_of message to_git moment) g act) l0 l1 d0 d1 r
 
   abbrev Does : Result (List ℕ) Trouble → Type 0
-  Does r = CarriesOut tells (Save at source moment) l0 l1 d0 d1 r
+  Does r = CarriesOut tells (Save at source to_git moment) l0 l1 d0 d1 r
 
   gave : (v : Option Id) → Saves (Ok v) → Does (Ok [])
   gave v acts = record {
@@ -119,7 +119,7 @@ module _ (at : Location) (source : Source) (moment : ℕ) (root : Names) (messag
   pub save_failed : (t : Trouble) → Saves (Err t) → Does (Err t)
   save_failed e acts = record {
     later = acts.later;
-    cause = more_cause (Option Id) (List ℕ) (λ fault. MaySave tells root fault) (λ fault. MayAnswer tells (Save at source moment) fault) (λ fault may. inl (inr (root, there, may))) e acts.cause;
+    cause = more_cause (Option Id) (List ℕ) (λ fault. MaySave tells root fault) (λ fault. MayAnswer tells (Save at source to_git moment) fault) (λ fault may. inl (inr (root, there, may))) e acts.cause;
     told = λ t. elim (acts.told t) [
       | inl halt ↦ inl (record { why = same_halt (Option Id) (List ℕ) e halt.why; said = halt.said; kept = halt.kept })
       | inr one ↦ inr (with_text [] one.0, act_at t one.0 one.1, goes_err one.0 [] d0 d1 l0 l1 e one.2)
@@ -138,8 +138,3 @@ found_later at root old mid same is = ap (λ (h : History). root_in at h.latest.
 -- so is a message
 pub message_later : (source : Source) (told : Result (List ℕ) Fault) (old mid : Drive) → mid.history ≡ old.history → message_in source (present old) ≡ told → message_in source (present mid) ≡ told
 message_later source told old mid same is = ap (λ (h : History). message_in source h.latest.now) same ∙ is
-
--- the lines of a save, after none
-pub save_lines : (before after : List Line) (v : Option Id) → before ≡ [] → SaveSays before after (Ok v) → AreSaveLines after ⊎ (after ≡ dataset_line (codes "notneeded") ∷ [])
-save_lines before after None none says = inr (says ∙ ap (λ (l : List Line). l ++ dataset_line (codes "notneeded") ∷ []) none)
-save_lines before after (Some id) none says = inl (says.0, says.1, says.2 ∙ ap (λ (l : List Line). l ++ says.0 ++ dataset_line (codes "ok") ∷ []) none)

@@ -109,10 +109,10 @@ module _ (laws : CommandLaws) (cwd : Names) (moment : ℕ) (dated : moment < 2 ^
       let source = source_by cwd message message_file in
       let at = location_by cwd dataset in
       record {
-        leaves = λ act is m. save_leaves laws.remains at source moment old new act is m;
-        sound = λ act is. save_sound laws.kept at source moment old new act is;
-        refused = λ act fault is ends may sound. save_refused laws.complete at source moment (present old) fault (Reaches act old new) act is ends sound;
-        one = save_is_one laws.single at source moment (present old);
+        leaves = λ act is m. save_leaves laws.remains at source to_git moment old new act is m;
+        sound = λ act is. save_sound laws.kept at source to_git moment old new act is;
+        refused = λ act fault is ends may sound. save_refused laws.complete at source to_git moment (present old) fault (Reaches act old new) act is ends sound;
+        one = save_is_one laws.single at source to_git moment (present old);
       }
   follows (words.Status dataset recursive) = status_follows (location_by cwd dataset)
   follows (words.Log dataset revision) = log_follows (location_by cwd dataset) (revision_by revision)

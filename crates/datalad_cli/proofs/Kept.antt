@@ -1,5 +1,5 @@
 -- What a command leaves at every moment, from its act.
-use Rattle.std.proofs.Common.{◌≡◌, inl, ⊎_elim, ℕ, false, List, [], Option, Some, None, Result, Ok, Err, refl, sym, subst}
+use Rattle.std.proofs.Common.{◌≡◌, inl, ⊎_elim, ℕ, Bool, false, List, [], Option, Some, None, Result, Ok, Err, refl, sym, subst}
 use Rattle.places.specs.All.{Names, has_name, Ground, file_at}
 use Rattle.file_store.specs.All.{Drive, Since, IsImage, present, IsAlong, WasOpen}
 use Rattle.file_store.proofs.Moments.{weaken}
@@ -57,20 +57,20 @@ module _ (at moment : ℕ) (fresh : List ℕ) (old new : Drive) where
       subst (λ (a : Act (List ℕ)). AtEachMoment (Create o at moment fresh) a old new) (sym is) (of_root o clear (subst (λ (a : Act (List ℕ)). Moments a old new) is m))
 
 -- A SAVE
-module _ (remains : SaveKeeps) (at : Location) (source : Source) (moment : ℕ) (old new : Drive) where
+module _ (remains : SaveKeeps) (at : Location) (source : Source) (to_git : Bool) (moment : ℕ) (old new : Drive) where
   abbrev Left : Option Names → Result (List ℕ) Fault → Act (List ℕ) → Type 0
   Left o told act = Remains (λ Else x. LeavesAt o told (last_of act (present old)) Else (present old) x) old new
 
-  left_at : (o : Option Names) (told : Result (List ℕ) Fault) (act : Act (List ℕ)) → IsActIn at (IsSaveBy told moment (present old)) o act → Moments act old new → Left o told act
+  left_at : (o : Option Names) (told : Result (List ℕ) Fault) (act : Act (List ℕ)) → IsActIn at (IsSaveBy told to_git moment (present old)) o act → Moments act old new → Left o told act
   left_at None told act is m = nothing_left (Refuses (no_root at)) act old new is m
   left_at (Some root) (Err fault) act is m = nothing_left (Refuses fault) act old new is m
   left_at (Some root) (Ok message) act is m =
       let saved : Act (Option Id) = is.0 in
       let along : Moments saved old new = cut_moments saved (ending_with [] saved.ending) old new (subst (λ (a : Act (List ℕ)). Moments a old new) is.2 m) in
-      let all = remains root (wish_of message moment) saved old new is.1 along in
+      let all = remains root (wish_of message to_git moment) saved old new is.1 along in
       subst (λ (a : Act (List ℕ)). Left (Some root) (Ok message) a) (sym is.2) (weaken (λ d both. both.0) all, weaken (λ d both. both.1) all)
 
-  pub save_leaves : (act : Act (List ℕ)) → IsActIn at (IsSaveBy (message_in source (present old)) moment (present old)) (root_in at (present old)) act → Moments act old new → AtEachMoment (Save at source moment) act old new
+  pub save_leaves : (act : Act (List ℕ)) → IsActIn at (IsSaveBy (message_in source (present old)) to_git moment (present old)) (root_in at (present old)) act → Moments act old new → AtEachMoment (Save at source to_git moment) act old new
   save_leaves act is m =
       let left = left_at (root_in at (present old)) (message_in source (present old)) act is m in
       record { along = m; stands = left.0; images = left.1 }

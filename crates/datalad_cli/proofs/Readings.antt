@@ -59,7 +59,7 @@ asks telling call old new status asked only ask built ends says = record {
 says_nothing : (command : Command) → MaySay command [] (Err ByMemory)
 says_nothing (Create None at moment fresh) = refl
 says_nothing (Create (Some root) at moment fresh) = refl
-says_nothing (Save at source moment) = refl
+says_nothing (Save at source to_git moment) = refl
 says_nothing (StatusOf at) = refl
 says_nothing (Log at word) = refl
 says_nothing Help = refl

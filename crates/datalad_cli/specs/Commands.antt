@@ -15,7 +15,7 @@ use Rattle.repository.specs.All.{repo_of}
 use Rattle.dataset.specs.All.{NoneCollide}
 use Rattle.recursive_save.specs.All.{new_dataset, new_parts, MayCreate, created_line, create_step}
 use Rattle.recursive_save.specs.All.{CreateRemains, IsSave, MaySave, SaveRemains, AreSaveLines}
-use Rattle.recursive_save.specs.All.{dataset_line, IsSoundRefusal}
+use Rattle.recursive_save.specs.All.{IsSoundRefusal}
 use Rattle.tree_status.specs.All.{IsSoundNoStatus, IsStatusText, MayView, StatusEnds}
 use Rattle.recursive_save.specs.declared.wishes.SaveWish.{SaveWish}
 use Rattle.history.specs.All.{IsLogLimit, IsLogText, IsSoundNoLog, IsStandingName, LogEnds, MayLog}
@@ -30,11 +30,12 @@ use Rattle.datalad_cli.specs.Words.{leads, revision_by}
 
 -- A command, with all that it takes from the words, the working directory, the clock and the random
 -- bytes: `create` by where its word leads, if a dataset may be made there, and by that word's
--- index; `save` by where it works, with where the commit's message comes from; `status` by that;
--- `log` by it, with the revision's word; `--help` and `--version`.
+-- index; `save` by where it works, with where the commit's message comes from, and whether git
+-- keeps new files; `status` by that; `log` by it, with the revision's word; `--help` and
+-- `--version`.
 pub data Command : Type 0 where
   Create : Option Names → ℕ → ℕ → List ℕ → Command
-  Save : Location → Source → ℕ → Command
+  Save : Location → Source → Bool → ℕ → Command
   StatusOf : Location → Command
   Log : Location → List ℕ → Command
   Help : Command
@@ -62,8 +63,9 @@ with_text text act = record {
 }
 
 -- What is asked of a save.
-abbrev pub wish_of : List ℕ → ℕ → SaveWish
-wish_of message moment = record { message = message; moment = moment }
+abbrev pub wish_of : List ℕ → Bool → ℕ → SaveWish
+wish_of message to_git moment =
+    record { message = message; to_git = to_git; moment = moment }
 
 -- An act of `save` in a dataset.
 abbrev pub IsSaveAct : SaveWish → Ground → Names → Act (List ℕ) → Type 0
@@ -71,9 +73,10 @@ IsSaveAct wish g root act =
     (saved : Act (Option Id)) × IsSave root wish g saved × (act ≡ with_text [] saved)
 
 -- An act of `save` in a dataset, by what its message comes to: refused where there is none.
-abbrev pub IsSaveBy : Result (List ℕ) Fault → ℕ → Ground → Names → Act (List ℕ) → Type 0
-IsSaveBy (Ok message) moment g root act = IsSaveAct (wish_of message moment) g root act
-IsSaveBy (Err fault) moment g root act = act ≡ still (Refuses fault)
+abbrev pub IsSaveBy : Result (List ℕ) Fault → Bool → ℕ → Ground → Names → Act (List ℕ) → Type 0
+IsSaveBy (Ok message) to_git moment g root act =
+    IsSaveAct (wish_of message to_git moment) g root act
+IsSaveBy (Err fault) to_git moment g root act = act ≡ still (Refuses fault)
 
 -- The ending by what a reading comes to.
 abbrev pub ending_by : Result (List ℕ) Fault → Ending (List ℕ)
@@ -103,8 +106,8 @@ IsActIn at IsIts (Some root) act = IsIts root act
 -- An act is one of the command's, at a ground.
 abbrev pub IsActOf : Command → Ground → Act (List ℕ) → Type 0
 IsActOf (Create dir at moment fresh) g act = act ≡ creates dir at moment fresh g
-IsActOf (Save at source moment) g act =
-    IsActIn at (IsSaveBy (message_in source g) moment g) (root_in at g) act
+IsActOf (Save at source to_git moment) g act =
+    IsActIn at (IsSaveBy (message_in source g) to_git moment g) (root_in at g) act
 IsActOf (StatusOf at) g act = IsActIn at (IsReadAct StatusEnds g) (root_in at g) act
 IsActOf (Log at word) g act =
     IsActIn at (IsReadAct (LogComes word) g) (root_in at g) act
@@ -127,7 +130,7 @@ abbrev pub MayAnswer : Bool → Command → Fault → Type 0
 MayAnswer tells (Create None at moment fresh) fault = fault ≡ BadPath at
 MayAnswer tells (Create (Some root) at moment fresh) fault =
     MayCreate tells (new_dataset root moment fresh) fault
-MayAnswer tells (Save at source moment) fault =
+MayAnswer tells (Save at source to_git moment) fault =
     MayIn at (λ root. MaySave tells root fault) fault ⊎ MayLack source fault
 MayAnswer tells (StatusOf at) fault = MayIn at (λ root. MayView tells root fault) fault
 MayAnswer tells (Log at word) fault = MayIn at (λ root. MayLog (repo_of root) word fault) fault
@@ -142,17 +145,17 @@ CarriesOut tells command before after old new result =
     after old new result
 
 -- The lines that a command says by its ending, and the text that it gives, whatever the files tell:
--- a save that is done says those of its commit, or that the dataset needs no save; a status is the
--- lines of changes, a log those of commits that follow one another.
+-- a save that is done says those of what has changed, and of the dataset whether it has a commit; a
+-- status is the lines of changes, a log those of commits that follow one another.
 abbrev pub MaySay : Command → List Line → Result (List ℕ) Trouble → Type 0
 MaySay (Create None at moment fresh) lines (Ok text) = ⊥
 MaySay (Create None at moment fresh) lines (Err trouble) = lines ≡ []
 MaySay (Create (Some root) at moment fresh) lines (Ok text) =
     (text ≡ []) × (lines ≡ created_line root ∷ [])
 MaySay (Create (Some root) at moment fresh) lines (Err trouble) = lines ≡ []
-MaySay (Save at source moment) lines (Ok text) =
-    (text ≡ []) × (AreSaveLines lines ⊎ (lines ≡ dataset_line (codes "notneeded") ∷ []))
-MaySay (Save at source moment) lines (Err trouble) = lines ≡ []
+MaySay (Save at source to_git moment) lines (Ok text) =
+    (text ≡ []) × (AreSaveLines (codes "ok") lines ⊎ AreSaveLines (codes "notneeded") lines)
+MaySay (Save at source to_git moment) lines (Err trouble) = lines ≡ []
 MaySay (StatusOf at) lines (Ok text) = IsStatusText text × (lines ≡ [])
 MaySay (StatusOf at) lines (Err trouble) = lines ≡ []
 MaySay (Log at word) lines (Ok text) = IsLogText text × (lines ≡ [])
@@ -177,7 +180,7 @@ abbrev pub Leaves : Command → Ground → (Names → Option (List ℕ) → Type
 Leaves (Create None at moment fresh) end Else g x = IsSame Else g x
 Leaves (Create (Some root) at moment fresh) end Else g x =
     CreateRemains (new_dataset root moment fresh) Else g x
-Leaves (Save at source moment) end Else g x =
+Leaves (Save at source to_git moment) end Else g x =
     LeavesAt (root_in at g) (message_in source g) end Else g x
 Leaves (StatusOf at) end Else g x = IsSame Else g x
 Leaves (Log at word) end Else g x = IsSame Else g x
@@ -190,7 +193,7 @@ abbrev pub CanKeep : Command → Type 0
 CanKeep (Create None at moment fresh) = Unit {0}
 CanKeep (Create (Some root) at moment fresh) =
     NoneCollide (repo_of root) (new_parts (new_dataset root moment fresh)).objects
-CanKeep (Save at source moment) = Unit {0}
+CanKeep (Save at source to_git moment) = Unit {0}
 CanKeep (StatusOf at) = Unit {0}
 CanKeep (Log at word) = Unit {0}
 CanKeep Help = Unit {0}
@@ -212,7 +215,7 @@ IsSoundLogFault word g root fault =
 abbrev pub IsSoundFault : Command → Ground → Fault → Type 0
 IsSoundFault (Create dir at moment fresh) g fault =
     MayAnswer true (Create dir at moment fresh) fault
-IsSoundFault (Save at source moment) g fault =
+IsSoundFault (Save at source to_git moment) g fault =
     IsFaultIn at (λ root. MayLack source fault ⊎ IsSoundRefusal fault) (root_in at g) fault
 IsSoundFault (StatusOf at) g fault =
     IsFaultIn at (λ root. IsSoundNoStatus fault) (root_in at g) fault
@@ -233,7 +236,7 @@ abbrev pub command_of : Names → ℕ → List ℕ → Words → Command
 command_of cwd moment fresh (words.Create dataset path) =
     Create (leads cwd path.text) path.index moment fresh
 command_of cwd moment fresh (words.Save dataset message message_file recursive to_git paths) =
-    Save (location_by cwd dataset) (source_by cwd message message_file) moment
+    Save (location_by cwd dataset) (source_by cwd message message_file) to_git moment
 command_of cwd moment fresh (words.Status dataset recursive) = StatusOf (location_by cwd dataset)
 command_of cwd moment fresh (words.Log dataset revision) =
     Log (location_by cwd dataset) (revision_by revision)

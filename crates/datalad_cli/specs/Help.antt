@@ -8,12 +8,12 @@ help_usage = codes "usage: datalad COMMAND [OPTION..] [OPERAND..]\n\n"
 -- The commands that are built, each with its form and one line.
 unfoldable pub help_commands : List ℕ
 help_commands =
-    codes "  create DIR                               make a dataset at DIR\n"
-    ++ codes "  save [-d DIR] [-m MSG|-F FILE] --to-git  commit the working files\n"
-    ++ codes "  status [-d DIR]                          list what a save would commit\n"
-    ++ codes "  log [-d DIR] [REVISION]                  list the commits of REVISION, or of HEAD\n"
-    ++ codes "  --help                                   print this text\n"
-    ++ codes "  --version                                print the version\n\n"
+    codes "  create DIR                                 make a dataset at DIR\n"
+    ++ codes "  save [-d DIR] [-m MSG|-F FILE] [--to-git]  commit the working files\n"
+    ++ codes "  status [-d DIR]                            list what a save would commit\n"
+    ++ codes "  log [-d DIR] [REVISION]                    list the commits of REVISION or HEAD\n"
+    ++ codes "  --help                                     print this text\n"
+    ++ codes "  --version                                  print the version\n\n"
 
 -- The statuses, and where the pages are.
 unfoldable pub help_end : List ℕ

@@ -16,12 +16,12 @@ fn help_usage() -> &'static [u8]
 fn help_commands() -> &'static [u8]
     ensures { result.now ≡ help_commands }
 {
-    b"\x20 create DIR                               make a dataset at DIR\n\
-      \x20 save [-d DIR] [-m MSG|-F FILE] --to-git  commit the working files\n\
-      \x20 status [-d DIR]                          list what a save would commit\n\
-      \x20 log [-d DIR] [REVISION]                  list the commits of REVISION, or of HEAD\n\
-      \x20 --help                                   print this text\n\
-      \x20 --version                                print the version\n\n"
+    b"\x20 create DIR                                 make a dataset at DIR\n\
+      \x20 save [-d DIR] [-m MSG|-F FILE] [--to-git]  commit the working files\n\
+      \x20 status [-d DIR]                            list what a save would commit\n\
+      \x20 log [-d DIR] [REVISION]                    list the commits of REVISION or HEAD\n\
+      \x20 --help                                     print this text\n\
+      \x20 --version                                  print the version\n\n"
 }
 
 #[tactic(auto, unfolding(crate::specs::Help::help_end))]

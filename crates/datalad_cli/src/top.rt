@@ -64,7 +64,7 @@ fn create_at<F: Files>(
     }
 }
 
-// `save`, by the words that may name a dataset, give a message and name its file.
+// `save`, by the words that may name a dataset, give a message and name its file, and say whether git keeps new files.
 fn save_at<F: Files>(
     alloc: Global,
     files: &mut F,
@@ -72,19 +72,24 @@ fn save_at<F: Files>(
     dataset: &Option<Word>,
     word: &Option<Word>,
     file: &Option<Word>,
+    to_git: bool,
     moment: u64,
     lines: &mut Vec<Line>,
 ) -> Result<Bytes, Trouble>
     requires { lines.old.items ≡ [] }
     ensures says { let source = source_by cwd.now word.now file.now in
-        MaySay (Save (location_by cwd.now dataset.now) source moment) lines.new.items result }
+        MaySay (Save (location_by cwd.now dataset.now) source to_git moment) lines.new.items result }
     ensures acts { let source = source_by cwd.now word.now file.now in
-        CarriesOut F.tells (Save (location_by cwd.now dataset.now) source moment) lines.old.items lines.new.items
+        CarriesOut F.tells (Save (location_by cwd.now dataset.now) source to_git moment) lines.old.items lines.new.items
         (F.drive files.old) (F.drive files.new) result }
 {
     let root = find_root(alloc, files, cwd, dataset)?;
     let message = find_message(alloc, files, cwd, word, file)?;
-    let wish = SaveWish { message, moment };
+    let wish = SaveWish {
+        message,
+        to_git,
+        moment,
+    };
     save(alloc, files, &root, &wish, lines)?;
     Ok(no_text(alloc))
 }
@@ -150,6 +155,7 @@ fn act<F: Files>(
             dataset,
             message,
             message_file,
+            to_git,
             ..
         } => {
             save_at(
@@ -159,6 +165,7 @@ fn act<F: Files>(
                 dataset,
                 message,
                 message_file,
+                *to_git,
                 moment,
                 lines,
             )

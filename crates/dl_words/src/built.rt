@@ -12,10 +12,9 @@ pub fn is_built(words: &Words) -> bool
         Words::Create { dataset, .. } => dataset.is_none(),
         Words::Save {
             recursive,
-            to_git,
             paths,
             ..
-        } => { !*recursive && *to_git && paths.as_slice().is_empty() }
+        } => !*recursive && paths.as_slice().is_empty(),
         Words::Status { recursive, .. } => !*recursive,
         Words::Log { .. } | Words::Help | Words::Version => true,
         _ => false,

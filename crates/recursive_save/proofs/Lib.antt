@@ -1,4 +1,3 @@
--- Lemmas that several answers share.
 pub mod Apart
 pub mod BlobFacts
 pub mod Clear
@@ -8,10 +7,17 @@ pub mod Configured
 pub mod Consequences
 pub mod Creation
 pub mod Done
+pub mod EachContent
 pub mod FirstCommit
 pub mod FirstFacts
+pub mod Following
 pub mod Handed
+pub mod KeepEnds
+pub mod KeepOnce
 pub mod KeepsSound
+pub mod KeptSound
+pub mod Keys
+pub mod LogForms
 pub mod Made
 pub mod NewSettings
 pub mod OldLeaves
@@ -20,9 +26,11 @@ pub mod Ours
 pub mod Persons
 pub mod PlanFacts
 pub mod SaidLines
+pub mod SaveActs
 pub mod SaveKeeps
 pub mod SaveLeft
 pub mod SaveRounds
 pub mod Saves
+pub mod Sources
 pub mod There
 pub mod Written

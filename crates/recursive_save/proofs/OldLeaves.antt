@@ -1,10 +1,10 @@
 -- What an old snapshot leads to is held where its commit is whole, so each leaf of the new one is held or put.
-use Rattle.std.proofs.Common.{◌≡◌, ◌⊎◌, inl, inr, ℕ, Bool, true, false, cond, List, [], ◌∷◌, map, Option, Some, None, refl, sym, ap, ◌∙◌, subst}
-use Rattle.std.specs.Prelude.{bytes_eq, not}
+use Rattle.std.proofs.Common.{◌≡◌, ◌⊎◌, inl, inr, ℕ, Bool, true, false, cond, List, [], ◌∷◌, ◌++◌, map, Option, Some, None, refl, sym, ap, ◌∙◌, subst}
+use Rattle.std.specs.Prelude.{bytes_eq, not, option_map}
 use Rattle.std.proofs.lemmas.Bool.{false≢true}
 use Rattle.std.proofs.lemmas.Slice.Eq.{bytes_eq-Decides}
 use Rattle.places.specs.All.{Names, Ground}
-use Rattle.git_objects.specs.All.{Object, is_dir, oid, IsTreeText}
+use Rattle.git_objects.specs.All.{Object, is_dir, IsTreeText}
 use Rattle.git_objects.specs.declared.ids.Id.{Id}
 use Rattle.git_objects.specs.declared.entries.Mode.{Mode}
 use Rattle.git_objects.specs.declared.entries.TreeEntry.{TreeEntry}
@@ -19,10 +19,17 @@ use Rattle.snapshot.specs.All.{leaf_entry, listed, root_id, id_of, mode_of}
 use Rattle.snapshot.specs.declared.entries.Entry.{Entry}
 use Rattle.snapshot.specs.declared.entries.Leaf.{Leaf}
 use Rattle.snapshot.specs.declared.entries.Leaf.TheVariants.{Git, Link, Pin}
-use Rattle.dataset.specs.All.{Has, IsBlobAt, IsLeafHeld, EachLeaf, IsLeafThere, blob_objects}
+use Rattle.dataset.specs.All.{Has, IsBlobAt, IsBlobThere, IsLeafHeld, EachLeaf, IsLeafThere, blob_objects}
 use Rattle.dataset.proofs.Commits.{has_either}
-use Rattle.tree_status.specs.All.{WorkFile, added, is_blob, leaf_at, new_blobs, new_entries}
-use Rattle.tree_status.specs.All.{new_entry}
+use Rattle.kept_files.specs.All.{leaf_id, new_blob}
+use Rattle.kept_files.specs.declared.kept.Kept.{Kept}
+use Rattle.kept_files.specs.declared.kept.Kept.TheVariants.{Same, InGit, Pointer, Content}
+use Rattle.repository.specs.All.{repo_of}
+use Rattle.tree_status.specs.All.{KeepBy, WorkFile, added, blob_in, is_blob, leaf_at, new_entries}
+use Rattle.tree_status.specs.All.{new_entry, old_blob, work_of}
+use Rattle.tree_status.specs.declared.found.WorkingFile.{WorkingFile}
+use Rattle.recursive_save.specs.Saving.{blob_by, blob_of, blobs_in, new_blobs}
+use Rattle.recursive_save.proofs.There.{AreOf, IsOf, bytes_of}
 
 module _ (repo : Names) (g : Ground) where
   -- ONE DIRECTORY is held under an id, and so are its leaves
@@ -109,39 +116,63 @@ old_leaf path (e ∷ list) l is = by (bytes_eq e.path path) is (old_leaf path li
         let found = more k in
         (found.0, inr found.1, found.2)
 
--- the bytes of some files
+-- the bodies of some blobs
 abbrev pub bodies : List WorkFile → List (List ℕ)
-bodies files = map (λ file. file.1) files
+bodies blobs = map (λ blob. blob.1) blobs
 
-blobs_of : (files : List WorkFile) → map (λ file. record { kind = Blob; body = file.1 }) files ≡ blob_objects (bodies files)
-blobs_of [] = refl
-blobs_of (f ∷ files) = ap (λ (os : List NewObject). record { kind = Blob; body = f.1 } ∷ os) (blobs_of files)
+pub blobs_are : (blobs : List WorkFile) → map blob_of blobs ≡ blob_objects (bodies blobs)
+blobs_are [] = refl
+blobs_are (b ∷ blobs) = ap (λ (os : List NewObject). record { kind = Blob; body = b.1 } ∷ os) (blobs_are blobs)
 
-pub new_blobs_are : (old : List Entry) (files : List WorkFile) → new_blobs old files ≡ blob_objects (bodies (added old files))
-new_blobs_are old files = blobs_of (added old files)
+-- the leaf that stays is that of the same blob
+same_blob : (o : Option Leaf) (id : List ℕ) → option_map (λ (i : Id). i.0) (blob_in o) ≡ Some id → is_blob id o ≡ true
+same_blob None id e = absurd (cc e)
+same_blob (Some (Git blob exec)) id e = (bytes_eq-Decides blob.0 id).1 (cc e)
+same_blob (Some (Link t)) id e = absurd (cc e)
+same_blob (Some (Pin c)) id e = absurd (cc e)
 
--- EACH NEW LEAF
-module _ (repo : Names) (g : Ground) (old : List Entry) (held : (path : List ℕ) (l : Leaf) → leaf_at path old ≡ Some l → IsLeafHeld repo g l) where
-  blob_held : (id : List ℕ) (o : Option Leaf) → ((l : Leaf) → o ≡ Some l → IsLeafHeld repo g l) → is_blob id o ≡ true → IsBlobAt repo id g
+-- EACH NEW LEAF is held on a ground h that holds the old ones, or put
+module _ (root : Names) (g h : Ground) (by : KeepBy) (held : (path : List ℕ) (l : Leaf) → leaf_at path by.old ≡ Some l → IsLeafHeld (repo_of root) h l) where
+  abbrev repo : Names
+  repo = repo_of root
+
+  blob_held : (id : List ℕ) (o : Option Leaf) → ((l : Leaf) → o ≡ Some l → IsLeafHeld repo h l) → is_blob id o ≡ true → IsBlobAt repo id h
   blob_held id None each is = absurd (cc is)
-  blob_held id (Some (Git blob exec)) each is = subst (λ (i : List ℕ). IsBlobAt repo i g) ((bytes_eq-Decides blob.0 id).0 is) (each (Git blob exec) refl)
+  blob_held id (Some (Git blob exec)) each is = subst (λ (i : List ℕ). IsBlobAt repo i h) ((bytes_eq-Decides blob.0 id).0 is) (each (Git blob exec) refl)
   blob_held id (Some (Link t)) each is = absurd (cc is)
   blob_held id (Some (Pin c)) each is = absurd (cc is)
 
-  more_there : (b : List ℕ) (bs : List (List ℕ)) (leaf : Leaf) → IsLeafThere repo g bs leaf → IsLeafThere repo g (b ∷ bs) leaf
-  more_there b bs (Git id exec) (inl at) = inl at
-  more_there b bs (Git id exec) (inr (body, has, is)) = inr (body, inr has, is)
-  more_there b bs (Link id) (inl at) = inl at
-  more_there b bs (Link id) (inr (body, has, is)) = inr (body, inr has, is)
-  more_there b bs (Pin id) h = h
+  one_more : (b : List ℕ) (bs : List (List ℕ)) (leaf : Leaf) → IsLeafThere repo h bs leaf → IsLeafThere repo h (b ∷ bs) leaf
+  one_more b bs (Git id exec) (inl at) = inl at
+  one_more b bs (Git id exec) (inr (body, has, is)) = inr (body, inr has, is)
+  one_more b bs (Link id) (inl at) = inl at
+  one_more b bs (Link id) (inr (body, has, is)) = inr (body, inr has, is)
+  one_more b bs (Pin id) there = there
 
-  pub all_there : (files : List WorkFile) (e : Entry) → Has (new_entries old files) e → IsLeafThere repo g (bodies (added old files)) e.leaf
-  all_there [] e has = absurd has
-  all_there (f ∷ files) e has = by (is_blob (oid Blob f.1) (leaf_at f.0 old)) refl (all_there files e) has
+  more_there : (some rest : List WorkFile) (leaf : Leaf) → IsLeafThere repo h (bodies rest) leaf → IsLeafThere repo h (bodies (some ++ rest)) leaf
+  more_there [] rest leaf there = there
+  more_there (b ∷ some) rest leaf there = one_more b.1 (bodies (some ++ rest)) leaf (more_there some rest leaf there)
+
+  put_by : (kept : Kept) (path bytes id : List ℕ) (rest : List WorkFile) → leaf_id kept (old_blob by path) bytes ≡ Some id → is_blob id (leaf_at path by.old) ≡ false
+      → IsBlobThere repo id h (bodies (blob_by path (new_blob kept bytes) ++ rest))
+  put_by (Same is_content) path bytes id rest is new = absurd (false≢true (sym new ∙ same_blob (leaf_at path by.old) id is))
+  put_by InGit path bytes id rest is new = inr (bytes, inl refl, cc is)
+  put_by (Pointer text) path bytes id rest is new = inr (text, inl refl, cc is)
+  put_by (Content text own) path bytes id rest is new = inr (text, inl refl, cc is)
+
+  id_of_file : (f : WorkingFile) → IsOf root g by f → leaf_id f.kept (old_blob by f.path) (work_of root g f.path).1 ≡ Some f.id.0
+  id_of_file f of =
+      (λ i. leaf_id f.kept (old_blob by (of.kept.path i)) (bytes_of root g by f of i)) ∙ of.kept.id
+
+  pub all_there : (files : List WorkingFile) → AreOf root g by files → (e : Entry) → Has (new_entries by.old files) e → IsLeafThere repo h (bodies (new_blobs root g by.old files)) e.leaf
+  all_there [] of e has = absurd has
+  all_there (f ∷ files) of e has = choose (is_blob f.id.0 (leaf_at f.path by.old)) refl (all_there files of.1 e) has
     where
-      by : (b : Bool) → is_blob (oid Blob f.1) (leaf_at f.0 old) ≡ b → (Has (new_entries old files) e → IsLeafThere repo g (bodies (added old files)) e.leaf) → (new_entry old f ≡ e) ⊎ Has (new_entries old files) e
-          → IsLeafThere repo g (bodies (cond (not b) (f ∷ added old files) (added old files))) e.leaf
-      by true is more (inl same) = subst (λ (x : Entry). IsLeafThere repo g (bodies (added old files)) x.leaf) same (inl (blob_held (oid Blob f.1) (leaf_at f.0 old) (held f.0) is))
-      by true is more (inr has) = more has
-      by false is more (inl same) = subst (λ (x : Entry). IsLeafThere repo g (bodies (f ∷ added old files)) x.leaf) same (inr (f.1, inl refl, refl))
-      by false is more (inr has) = more_there f.1 (bodies (added old files)) e.leaf (more has)
+      choose : (b : Bool) → is_blob f.id.0 (leaf_at f.path by.old) ≡ b → (Has (new_entries by.old files) e → IsLeafThere repo h (bodies (new_blobs root g by.old files)) e.leaf) → (new_entry by.old f ≡ e) ⊎ Has (new_entries by.old files) e
+          → IsLeafThere repo h (bodies (blobs_in root g (cond (not b) (f ∷ added by.old files) (added by.old files)))) e.leaf
+      choose true is more (inl same) = subst (λ (x : Entry). IsLeafThere repo h (bodies (new_blobs root g by.old files)) x.leaf) same (inl (blob_held f.id.0 (leaf_at f.path by.old) (held f.path) is))
+      choose true is more (inr has) = more has
+      choose false is more (inl same) =
+          subst (λ (x : Entry). IsLeafThere repo h (bodies (blobs_in root g (f ∷ added by.old files))) x.leaf) same
+          (put_by f.kept f.path (work_of root g f.path).1 f.id.0 (new_blobs root g by.old files) (id_of_file f of.0) is)
+      choose false is more (inr has) = more_there (blob_by f.path (new_blob f.kept (work_of root g f.path).1)) (new_blobs root g by.old files) e.leaf (more has)

@@ -1,89 +1,141 @@
 -- A save has one act, by the ground at which it starts.
-use Rattle.std.proofs.Common.{◌≡◌, inl, inr, ℕ, true, false, List, [], ◌∷◌, ◌++◌, Option, Some, None, refl, sym, ap, ◌∙◌, subst}
-use Rattle.std.specs.Prelude.{codes}
+use Rattle.std.proofs.Common.{◌≡◌, ℕ, Bool, true, false, List, [], ◌∷◌, ◌++◌, Option, Some, None, refl, sym, ap, ◌∙◌, subst}
+use Rattle.std.specs.Prelude.{◌||◌, codes, map, not}
 use Rattle.std.proofs.lemmas.Bool.{false≢true}
 use Rattle.places.specs.All.{Names, Ground}
 use Rattle.faults.specs.declared.faults.Fault.{Fault}
-use Rattle.file_store.specs.All.{or_next}
 use Rattle.git_objects.specs.All.{oid}
 use Rattle.git_objects.specs.declared.ids.Id.{Id}
 use Rattle.git_objects.specs.declared.objects.ObjKind.TheVariants.{Commit}
 use Rattle.config_text.specs.All.{config_in}
-use Rattle.repository.specs.All.{repo_of}
-use Rattle.acts.specs.All.{Act, still, Refuses}
-use Rattle.ref_store.specs.All.{IsTipAt}
-use Rattle.snapshot.specs.All.{IsFlat, IsFlattenFault, root_id, tree_objects}
+use Rattle.acts.specs.All.{Act, Refuses, bind, ending_of, go_on, still, unless}
+use Rattle.snapshot.specs.All.{root_id, tree_objects}
 use Rattle.snapshot.specs.declared.entries.Entry.{Entry}
 use Rattle.snapshot.proofs.Once.{paths_once}
-use Rattle.tree_status.specs.All.{working, is_changed, new_blobs, new_entries, IsRead, IsUnread}
-use Rattle.tree_status.specs.All.{view_fault}
-use Rattle.recursive_save.specs.Lines.{change_lines}
+use Rattle.tree_status.specs.All.{IsRead, IsUnread, KeepBy, is_changed, is_nothing, is_other}
+use Rattle.tree_status.specs.All.{lacking, new_entries}
+use Rattle.tree_status.specs.declared.found.WorkingFile.{WorkingFile}
 use Rattle.tree_status.proofs.OneLook.{SameRead, not_none, read_once, some_once, unread_once, unread_or_read}
+use Rattle.recursive_save.specs.Contents.{IsKeepingOf}
 use Rattle.recursive_save.specs.Saved.{SaveIsOne}
-use Rattle.recursive_save.specs.Saving.{IsSave, IsSavePlan, SavePlan, clean, dataset_line}
-use Rattle.recursive_save.specs.Saving.{plan_fault, save_commit, saved, saves, unplanned, unread}
+use Rattle.recursive_save.specs.Saving.{IsSave, IsSavePlan, SavePlan, blob_of, clash_fault, clashing, clean, kept, new_blobs}
+use Rattle.recursive_save.specs.Saving.{plan_fault, save_commit, save_lines, saved, saves}
+use Rattle.recursive_save.specs.Saving.{saves_contents, unplanned, unread, writes}
 use Rattle.recursive_save.specs.declared.wishes.SaveWish.{SaveWish}
+use Rattle.recursive_save.proofs.KeepOnce.{keeping_once}
 
-module _ (root : Names) (g : Ground) where
-  -- WHAT IS PLANNED
-  module _ (wish : SaveWish) {one two : List ℕ} {a b : List Entry} {plan other : SavePlan} (same : SameRead root g one two a b) (p : IsSavePlan root wish g one a plan) (q : IsSavePlan root wish g two b other) where
-    settings_once : p.settings ≡ q.settings
-    settings_once = some_once _ p.settings q.settings p.stands q.stands
+-- Where two objects of a plan collide, the planned save does nothing.
+saves_clash : (root : Names) (plan : SavePlan) (keeps : Act (Unit {0})) (g : Ground) (fault : Fault) → clash_fault [] plan.objects ≡ Some fault → saves root plan keeps g ≡ still (Refuses fault)
+unfolding saves bind unless
+saves_clash root plan keeps g fault why =
+    ap (λ (o : Option Fault). go_on (still (ending_of o)) (ending_of o) g (λ _. bind (λ _. keeps) (λ _. writes root plan))) why
 
-    config_once : p.config ≡ q.config
-    config_once = cc (sym p.configured ∙ ap config_in settings_once ∙ q.configured)
+module _ (root : Names) (wish : SaveWish) (g : Ground) where
+  -- WHAT IS READ
+  module _ {one two : List ℕ} {a b : KeepBy} {files others : List WorkingFile} (read : IsRead root wish.to_git g one a files) (other : IsRead root wish.to_git g two b others) where
+    same : SameRead root wish.to_git g one two a b files others
+    same = read_once root wish.to_git g one two a b files others read other
 
-    dir_once : p.built.dir ≡ q.built.dir
-    dir_once = paths_once [] p.built.dir q.built.dir p.built.valid q.built.valid p.built.dense q.built.dense
-        (sym p.built.same ∙ ap (λ (list : List Entry). new_entries list (working root g)) same.old ∙ q.built.same)
+    -- and what is asked of it
+    asked_once : {A : Type 0} (ask : List Entry → List WorkingFile → A) → ask a.old files ≡ ask b.old others
+    asked_once ask i = ask (same.by i).old (same.kept i)
 
-    tree_once : p.tree ≡ q.tree
-    tree_once = p.built.top ∙ ap root_id dir_once ∙ sym q.built.top
+    not_both : (ask : List Entry → List WorkingFile → Bool) → ask a.old files ≡ true → ask b.old others ≡ false → ⊥
+    not_both ask on off = false≢true (sym off ∙ sym (asked_once ask) ∙ on)
 
-    trees_once : p.trees ≡ q.trees
-    trees_once = p.built.all ∙ ap tree_objects dir_once ∙ sym q.built.all
+    fault_or_none : (fault : Fault) → plan_fault root g a.old files ≡ Some fault → plan_fault root g b.old others ≡ None → ⊥
+    fault_or_none fault some none = not_none _ fault some (asked_once (plan_fault root g) ∙ none)
 
-    body_once : save_commit p.config wish p.tree one ≡ save_commit q.config wish q.tree two
-    body_once i = save_commit (config_once i) wish (tree_once i) (same.parent i)
+    fault_once : (fault more : Fault) → plan_fault root g a.old files ≡ Some fault → plan_fault root g b.old others ≡ Some more → fault ≡ more
+    fault_once fault more some too = some_once _ fault more some (asked_once (plan_fault root g) ∙ too)
 
-    objects_once : plan.objects ≡ other.objects
-    objects_once = p.objects ∙ (λ i. new_blobs (same.old i) (working root g) ++ trees_once i ++ record { kind = Commit; body = body_once i } ∷ []) ∙ sym q.objects
+    keeps_once : (k l : Act (Unit {0})) → IsKeepingOf root wish.moment g a files k → IsKeepingOf root wish.moment g b others l → k ≡ l
+    keeps_once k l first second = keeping_once root wish.moment g b others k l (subst (λ (z : KeepBy). IsKeepingOf root wish.moment g z others k) same.by (subst (λ (z : List WorkingFile). IsKeepingOf root wish.moment g a z k) same.kept first)) second
 
-    commit_once : plan.commit ≡ other.commit
-    commit_once = p.commit ∙ ap (oid Commit) body_once ∙ sym q.commit
+    -- WHAT IS PLANNED
+    module _ {plan more : SavePlan} (p : IsSavePlan root wish g one a.old files plan) (q : IsSavePlan root wish g two b.old others more) where
+      settings_once : p.settings ≡ q.settings
+      settings_once = some_once _ p.settings q.settings p.stands q.stands
 
-    lines_once : plan.lines ≡ other.lines
-    lines_once = p.lines ∙ ap (λ (list : List Entry). change_lines list (working root g) ++ dataset_line (codes "ok") ∷ []) same.old ∙ sym q.lines
+      config_once : p.config ≡ q.config
+      config_once = cc (sym p.configured ∙ ap config_in settings_once ∙ q.configured)
 
-    plan_once : plan ≡ other
-    plan_once i = record { objects = objects_once i; commit = commit_once i; lines = lines_once i }
+      dir_once : p.built.dir ≡ q.built.dir
+      dir_once = paths_once [] p.built.dir q.built.dir p.built.valid q.built.valid p.built.dense q.built.dense (sym p.built.same ∙ asked_once new_entries ∙ q.built.same)
 
-  changed_once : (a b : List Entry) → a ≡ b → is_changed a (working root g) ≡ false → is_changed b (working root g) ≡ true → ⊥
-  changed_once a b same off on = false≢true (sym off ∙ ap (λ (list : List Entry). is_changed list (working root g)) same ∙ on)
+      tree_once : p.tree ≡ q.tree
+      tree_once = p.built.top ∙ ap root_id dir_once ∙ sym q.built.top
 
-  planned_once : (a b : List Entry) (fault : Fault) → a ≡ b → plan_fault root g a ≡ Some fault → plan_fault root g b ≡ None → ⊥
-  planned_once a b fault same some none = not_none _ fault some (ap (plan_fault root g) same ∙ none)
+      trees_once : p.trees ≡ q.trees
+      trees_once = p.built.all ∙ ap tree_objects dir_once ∙ sym q.built.all
+
+      body_once : save_commit p.config wish p.tree one ≡ save_commit q.config wish q.tree two
+      body_once i = save_commit (config_once i) wish (tree_once i) (same.parent i)
+
+      objects_once : plan.objects ≡ more.objects
+      objects_once = p.objects ∙ (λ i. map blob_of (new_blobs root g (same.by i).old (same.kept i)) ++ trees_once i ++ record { kind = Commit; body = body_once i } ∷ []) ∙ sym q.objects
+
+      commit_once : plan.commit ≡ more.commit
+      commit_once = p.commit ∙ ap (oid Commit) body_once ∙ sym q.commit
+
+      lines_once : plan.lines ≡ more.lines
+      lines_once = p.lines ∙ asked_once (λ old list. save_lines old list (codes "ok")) ∙ sym q.lines
+
+      plan_once : plan ≡ more
+      plan_once i = record { objects = objects_once i; commit = commit_once i; lines = lines_once i }
+
+      clash_once : clash_fault [] plan.objects ≡ clash_fault [] more.objects
+      clash_once = ap (clash_fault []) objects_once
 
   -- THE ACT
-  act_once : (wish : SaveWish) (one two : Act (Option Id)) → IsSave root wish g one → IsSave root wish g two → one ≡ two
-  act_once wish _ _ (unread fault why) (unread other because) = ap (λ (f : Fault). still (Refuses f)) (unread_once root g fault other why because)
-  act_once wish _ _ (unread fault why) (clean p a read same) = absurd (unread_or_read root g fault p a why read)
-  act_once wish _ _ (unread fault why) (unplanned p a other read changed because) = absurd (unread_or_read root g fault p a why read)
-  act_once wish _ _ (unread fault why) (saved p a plan read changed none planned) = absurd (unread_or_read root g fault p a why read)
-  act_once wish _ _ (clean p a read same) (unread fault why) = absurd (unread_or_read root g fault p a why read)
-  act_once wish _ _ (clean p a read same) (clean q b other also) = refl
-  act_once wish _ _ (clean p a read same) (unplanned q b fault other changed why) = absurd (changed_once a b (read_once root g p q a b read other).old same changed)
-  act_once wish _ _ (clean p a read same) (saved q b plan other changed none planned) = absurd (changed_once a b (read_once root g p q a b read other).old same changed)
-  act_once wish _ _ (unplanned p a fault read changed why) (unread other because) = absurd (unread_or_read root g other p a because read)
-  act_once wish _ _ (unplanned p a fault read changed why) (clean q b other same) = absurd (changed_once b a (read_once root g q p b a other read).old same changed)
-  act_once wish _ _ (unplanned p a fault read changed why) (unplanned q b more other differs because) =
-      ap (λ (f : Fault). still (Refuses f)) (some_once _ fault more (ap (plan_fault root g) (read_once root g q p b a other read).old ∙ why) because)
-  act_once wish _ _ (unplanned p a fault read changed why) (saved q b plan other differs none planned) = absurd (planned_once a b fault (read_once root g p q a b read other).old why none)
-  act_once wish _ _ (saved p a plan read changed none planned) (unread fault why) = absurd (unread_or_read root g fault p a why read)
-  act_once wish _ _ (saved p a plan read changed none planned) (clean q b other same) = absurd (changed_once b a (read_once root g q p b a other read).old same changed)
-  act_once wish _ _ (saved p a plan read changed none planned) (unplanned q b fault other differs why) = absurd (planned_once b a fault (read_once root g q p b a other read).old why none)
-  act_once wish _ _ (saved p a plan read changed none planned) (saved q b more other differs nothing also) =
-      ap (λ (z : SavePlan). saves root z g) (plan_once wish (read_once root g p q a b read other) planned also)
+  no_read : {fault : Fault} {parent : List ℕ} {by : KeepBy} {files : List WorkingFile} → IsUnread root wish.to_git g fault → IsRead root wish.to_git g parent by files → ⊥
+  no_read {fault = fault} {parent = parent} {by = by} {files = files} why read = unread_or_read root wish.to_git g fault parent by files why read
+
+  other_changed : (old : List Entry) (files : List WorkingFile) → is_other old files ≡ true → is_changed old files ≡ true
+  other_changed old files other = ap (λ (b : Bool). b || not (is_nothing (lacking files))) other
+
+  act_once : (one two : Act (Option Id)) → IsSave root wish g one → IsSave root wish g two → one ≡ two
+  act_once _ _ (unread fault why) (unread more because) = ap (λ (f : Fault). still (Refuses f)) (unread_once root wish.to_git g fault more why because)
+  act_once _ _ (unread fault why) (clean q b others other unchanged) = absurd (no_read why other)
+  act_once _ _ (unread fault why) (unplanned q b others more other changed because) = absurd (no_read why other)
+  act_once _ _ (unread fault why) (kept q b others keeps other changed alike none keep) = absurd (no_read why other)
+  act_once _ _ (unread fault why) (saved q b others plan keeps other differs none planned keep) = absurd (no_read why other)
+  act_once _ _ (unread fault why) (clashing q b others plan more other differs none planned clash) = absurd (no_read why other)
+  act_once _ _ (clean p a files read unchanged) (unread fault why) = absurd (no_read why read)
+  act_once _ _ (clean p a files read unchanged) (clean q b others other also) = refl
+  act_once _ _ (clean p a files read unchanged) (unplanned q b others more other changed because) = absurd (not_both other read is_changed changed unchanged)
+  act_once _ _ (clean p a files read unchanged) (kept q b others keeps other changed alike none keep) = absurd (not_both other read is_changed changed unchanged)
+  act_once _ _ (clean p a files read unchanged) (saved q b others plan keeps other differs none planned keep) = absurd (not_both other read is_changed (other_changed b.old others differs) unchanged)
+  act_once _ _ (clean p a files read unchanged) (clashing q b others plan more other differs none planned clash) = absurd (not_both other read is_changed (other_changed b.old others differs) unchanged)
+  act_once _ _ (unplanned p a files fault read changed why) (unread more because) = absurd (no_read because read)
+  act_once _ _ (unplanned p a files fault read changed why) (clean q b others other unchanged) = absurd (not_both read other is_changed changed unchanged)
+  act_once _ _ (unplanned p a files fault read changed why) (unplanned q b others more other too because) = ap (λ (f : Fault). still (Refuses f)) (fault_once read other fault more why because)
+  act_once _ _ (unplanned p a files fault read changed why) (kept q b others keeps other too alike none keep) = absurd (fault_or_none read other fault why none)
+  act_once _ _ (unplanned p a files fault read changed why) (saved q b others plan keeps other differs none planned keep) = absurd (fault_or_none read other fault why none)
+  act_once _ _ (unplanned p a files fault read changed why) (clashing q b others plan more other differs none planned clash) = absurd (fault_or_none read other fault why none)
+  act_once _ _ (kept p a files keeps read changed alike none keep) (unread fault why) = absurd (no_read why read)
+  act_once _ _ (kept p a files keeps read changed alike none keep) (clean q b others other unchanged) = absurd (not_both read other is_changed changed unchanged)
+  act_once _ _ (kept p a files keeps read changed alike none keep) (unplanned q b others fault other too why) = absurd (fault_or_none other read fault why none)
+  act_once _ _ (kept p a files keeps read changed alike none keep) (kept q b others more other too unchanged nothing also) =
+      λ i. saves_contents (asked_once read other (λ old list. save_lines old list (codes "notneeded")) i) (keeps_once read other keeps more keep also i) g
+  act_once _ _ (kept p a files keeps read changed alike none keep) (saved q b others plan more other differs nothing planned also) = absurd (not_both other read is_other differs alike)
+  act_once _ _ (kept p a files keeps read changed alike none keep) (clashing q b others plan fault other differs nothing planned clash) = absurd (not_both other read is_other differs alike)
+  act_once _ _ (saved p a files plan keeps read differs none planned keep) (unread fault why) = absurd (no_read why read)
+  act_once _ _ (saved p a files plan keeps read differs none planned keep) (clean q b others other unchanged) = absurd (not_both read other is_changed (other_changed a.old files differs) unchanged)
+  act_once _ _ (saved p a files plan keeps read differs none planned keep) (unplanned q b others fault other too why) = absurd (fault_or_none other read fault why none)
+  act_once _ _ (saved p a files plan keeps read differs none planned keep) (kept q b others more other too alike nothing also) = absurd (not_both read other is_other differs alike)
+  act_once _ _ (saved p a files plan keeps read differs none planned keep) (saved q b others next more other too nothing also keeping) =
+      λ i. saves root (plan_once read other planned also i) (keeps_once read other keeps more keep keeping i) g
+  act_once _ _ (saved p a files plan keeps read differs none planned keep) (clashing q b others next fault other too nothing also clash) =
+      saves_clash root plan keeps g fault (clash_once read other planned also ∙ clash)
+  act_once _ _ (clashing p a files plan fault read differs none planned clash) (unread more because) = absurd (no_read because read)
+  act_once _ _ (clashing p a files plan fault read differs none planned clash) (clean q b others other unchanged) = absurd (not_both read other is_changed (other_changed a.old files differs) unchanged)
+  act_once _ _ (clashing p a files plan fault read differs none planned clash) (unplanned q b others more other too why) = absurd (fault_or_none other read more why none)
+  act_once _ _ (clashing p a files plan fault read differs none planned clash) (kept q b others keeps other too alike nothing keep) = absurd (not_both read other is_other differs alike)
+  act_once _ _ (clashing p a files plan fault read differs none planned clash) (clashing q b others next more other too nothing also hit) =
+      ap (λ (f : Fault). still (Refuses f)) (some_once _ fault more clash (clash_once read other planned also ∙ hit))
+  act_once _ _ (clashing p a files plan fault read differs none planned clash) (saved q b others next keeps other too nothing also keep) =
+      sym (saves_clash root next keeps g fault (sym (clash_once read other planned also) ∙ clash))
 
 pub one_act : SaveIsOne
-one_act root wish g one two a b = act_once root g wish one two a b
+one_act root wish g one two a b = act_once root wish g one two a b

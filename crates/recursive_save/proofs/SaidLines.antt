@@ -1,6 +1,5 @@
 -- The lines of the changes are lines of changed files, whatever the files tell.
-use Rattle.std.proofs.Common.{◌≡◌, List, [], ◌∷◌, ◌++◌, map, refl, ap, ◌∙◌, sym, append_assoc}
-use Rattle.std.specs.Prelude.{codes}
+use Rattle.std.proofs.Common.{◌≡◌, ℕ, List, [], ◌∷◌, ◌++◌, map, refl, ap, ◌∙◌, sym, append_assoc}
 use Rattle.faults.specs.declared.lines.Line.{Line}
 use Rattle.recursive_save.specs.Lines.{change_line, AreChangeLines}
 use Rattle.recursive_save.specs.Saved.{AreSaveLines}
@@ -11,12 +10,8 @@ pub all_said : (changes : List Change) → AreChangeLines (map change_line chang
 all_said [] = tt
 all_said (change ∷ more) = ((change, refl), all_said more)
 
--- the dataset's line comes after them
-pub last_said : (changes all : List Line) (last : Line) → AreChangeLines changes → last ≡ dataset_line (codes "ok") → all ≡ changes ++ last ∷ [] → AreSaveLines all
-last_said changes all last said is pushes = (changes, said, pushes ∙ ap (λ (l : Line). changes ++ l ∷ []) is)
-
 -- they are all said
-pub said_after : (before lines after : List Line) → AreSaveLines lines → after ≡ before ++ lines
-    → (changes : List Line) × AreChangeLines changes × (after ≡ before ++ changes ++ dataset_line (codes "ok") ∷ [])
-said_after before lines after said is =
-    (said.0, said.1, is ∙ ap (λ (l : List Line). before ++ l) said.2 ∙ sym (append_assoc before said.0 (dataset_line (codes "ok") ∷ [])))
+pub said_after : (status : List ℕ) (before lines after : List Line) → AreSaveLines status lines → after ≡ before ++ lines
+    → (changes : List Line) × AreChangeLines changes × (after ≡ before ++ changes ++ dataset_line status ∷ [])
+said_after status before lines after said is =
+    (said.0, said.1, is ∙ ap (λ (l : List Line). before ++ l) said.2 ∙ sym (append_assoc before said.0 (dataset_line status ∷ [])))

@@ -1,166 +1,224 @@
--- The rounds of a save: none, or that of its objects, or that of its tip, or both in this order.
-use Rattle.std.proofs.Common.{◌≡◌, ◌⊎◌, inl, inr, Bool, false, ◌||◌, List, [], ◌∷◌, ◌++◌, Option, Some, None, refl, sym, ap, ◌∙◌}
-use Rattle.places.specs.All.{Names, Ground}
-use Rattle.faults.specs.declared.faults.Fault.{Fault}
-use Rattle.faults.specs.declared.lines.Line.{Line}
-use Rattle.file_store.specs.All.{Round, only}
+-- The rounds of a save by what they change: contents, then logs, then objects, then the tip, each in one round or none.
+use Rattle.std.proofs.Common.{◌≡◌, ◌≢◌, ◌⊎◌, inl, inr, ⊎_elim, ℕ, Bool, true, false, cond, ◌||◌, List, [], ◌∷◌, ◌++◌, Option, Some, None, refl, sym, ap, ◌∙◌, subst}
+use Rattle.std.specs.Prelude.{bytes_eq, codes, map}
+use Rattle.std.specs.List.{AllByRecursion}
+use Rattle.std.proofs.lemmas.Bool.{false≢true}
+use Rattle.places.specs.All.{Names, Ground, file_at, pieces}
+use Rattle.places.proofs.Above.{same_rest}
+use Rattle.places.proofs.Grounds.{cases_place}
+use Rattle.file_store.specs.All.{Round, removal_of, round_of}
 use Rattle.file_store.specs.declared.replacing.Replacement.{Replacement}
-use Rattle.git_objects.specs.declared.ids.Id.{Id}
-use Rattle.repository.specs.All.{id_text, repo_of, tmp_place, is_tmp}
-use Rattle.acts.specs.All.{Act, Ending, Gives, Refuses, Breaks, Step}
-use Rattle.acts.specs.All.{rounds_of, rounds_in, last_of, still, ending_of, go_on, bind, unless}
-use Rattle.acts.specs.All.{gives, says, fold, whole_round}
-use Rattle.object_store.specs.All.{early_fault, missing, puts_missing, puts_objects, puts_some, staging}
-use Rattle.ref_store.specs.All.{sets_tip, tip_at}
-use Rattle.ref_store.proofs.Keeping.{puts_round, set_round}
+use Rattle.file_store.proofs.Consequences.{AllLeave, AtMostOnce, never, not_here, not_later}
+use Rattle.file_store.proofs.Rounds.{LeftBy}
+use Rattle.git_objects.specs.All.{hex_of, oid}
+use Rattle.annex_keys.specs.All.{PlainKey}
+use Rattle.repository.specs.All.{is_tmp, repo_of, tip_place}
+use Rattle.repository.specs.All.{object_names as names_of_object}
+use Rattle.acts.specs.All.{Act, Breaks, Ending, Gives, Refuses, Step, bind, go_on, last_of, puts, rounds_in, whole_round}
+use Rattle.acts.specs.Acts.{still}
+use Rattle.annex_store.specs.All.{content_names, content_place, log_names, log_place}
+use Rattle.object_store.specs.All.{place_in}
+use Rattle.object_store.specs.declared.objects.NewObject.{NewObject}
+use Rattle.ref_store.specs.All.{branch_by, head_at, tip_at}
+use Rattle.ref_store.proofs.Keeping.{puts_round}
 use Rattle.dataset.proofs.Steps.{rounds_append}
-use Rattle.recursive_save.specs.Saving.{SavePlan, clash_fault, says_all, saves, saves_nothing, writes}
 
--- an act of no round
-pub record NoRound {V : Type 0} (act : Act V) : Type 0 where
-  pub rounds : rounds_in act ≡ []
-  pub firm : (q : Names) → is_tmp q ≡ false → act.loose q ≡ false
+-- what a round changes
+pub data Part : Type 0 where
+  Contents : Part
+  Logs : Part
+  Objects : Part
+  Tip : Part
 
--- an act of this round, or of none
-pub record AtMost {V : Type 0} (act : Act V) (round : Round) : Type 0 where
-  pub rounds : (rounds_in act ≡ []) ⊎ (rounds_in act ≡ round ∷ [])
-  pub firm : (q : Names) → is_tmp q ≡ false → act.loose q ≡ false
+-- a place is of a part of a save that begins on this ground
+abbrev pub IsOf : Names → Ground → Part → Names → Type 0
+IsOf root g Contents q = (key : PlainKey) × (q ≡ content_place (repo_of root) key)
+IsOf root g Logs q = (key : PlainKey) × (q ≡ log_place (repo_of root) key)
+IsOf root g Objects q = (x : NewObject) × (file_at g (place_in (repo_of root) x) ≡ None) × (q ≡ place_in (repo_of root) x)
+IsOf root g Tip q = q ≡ tip_at (repo_of root) g
 
--- an act of these two rounds, or of some of them
-pub record OfTwo {V : Type 0} (act : Act V) (one two : Round) : Type 0 where
-  pub rounds : (rounds_in act ≡ []) ⊎ ((rounds_in act ≡ one ∷ []) ⊎ ((rounds_in act ≡ two ∷ []) ⊎ (rounds_in act ≡ one ∷ two ∷ [])))
+-- ---- each place is of one part
+
+-- by its names in the repository
+part_in : Names → Part
+part_in [] = Tip
+part_in (n ∷ []) = Tip
+part_in (n ∷ m ∷ names) =
+    cond (bytes_eq n (codes "annex")) (cond (bytes_eq m (codes "logs")) Logs Contents) (cond (bytes_eq n (codes "objects")) Objects Tip)
+
+-- other places than those of these parts
+abbrev pub IsApart : Names → Ground → List Part → Names → Type 0
+IsApart root g parts q = AllByRecursion (λ part. IsOf root g part q → ⊥) parts
+
+-- no part is twice among them
+abbrev pub AreOwn : List Part → Type 0
+AreOwn [] = Unit {0}
+AreOwn (part ∷ parts) = AllByRecursion (λ other. part ≢ other) parts × AreOwn parts
+
+-- ---- rounds and acts of some parts
+
+-- a round changes only places of a part, and those of unfinished writes
+abbrev pub IsRoundOf : Names → Ground → Part → Round → Type 0
+IsRoundOf root g part round = (q : Names) → is_tmp q ≡ false → LeftBy round q ⊎ IsOf root g part q
+
+-- rounds are of these parts, in this order, of each one or none
+pub data AreOf (root : Names) (g : Ground) : List Part → List Round → Type 0 where
+  ended : AreOf root g [] []
+  skips : {part : Part} {parts : List Part} {rounds : List Round} → AreOf root g parts rounds → AreOf root g (part ∷ parts) rounds
+  takes : {part : Part} {parts : List Part} {round : Round} {rounds : List Round} → IsRoundOf root g part round → AreOf root g parts rounds → AreOf root g (part ∷ parts) (round ∷ rounds)
+
+-- an act of such rounds
+pub record IsActOf {V : Type 0} (root : Names) (g : Ground) (parts : List Part) (act : Act V) : Type 0 where
+  pub rounds : AreOf root g parts (rounds_in act)
   pub firm : (q : Names) → is_tmp q ≡ false → act.loose q ≡ false
 
 neither_loose : (a b : Bool) → a ≡ false → b ≡ false → (a || b) ≡ false
 neither_loose a b h k = λ i. h i || k i
 
-nothing_more : (rs : List Round) → rs ≡ rs ++ []
-nothing_more [] = refl
-nothing_more (r ∷ rs) = ap (λ (l : List Round). r ∷ l) (nothing_more rs)
+left_both : (one two : Round) (q : Names) → LeftBy one q → LeftBy two q → LeftBy (one ++ two) q
+left_both [] two q a b = b
+left_both (c ∷ one) two q a b = (a.0, left_both one two q a.1 b)
 
-module _ {V W : Type 0} (first : Step V) (next : V → Step W) (g : Ground) where
-  abbrev Joined : V → List Round
-  Joined v = rounds_in (first g) ++ rounds_in (next v (last_of (first g) g))
+module _ (root : Names) (g : Ground) where
+  abbrev Of : Part → Names → Type 0
+  Of part q = IsOf root g part q
 
-  joined : (v : V) → rounds_of ((first g).events ++ (next v (last_of (first g) g)).events) ≡ Joined v
-  joined v = rounds_append (first g).events (next v (last_of (first g) g)).events
+  record Named (part : Part) (q : Names) : Type 0 where
+    names : Names
+    place : q ≡ repo_of root ++ names
+    is : part_in names ≡ part
 
-  -- neither has a round
-  none_then : NoRound (first g) → ((v : V) → NoRound (next v (last_of (first g) g))) → NoRound (bind first next g)
-  unfolding bind
-  none_then one more = by (first g).ending
-    where
-      by : (ending : Ending V) → NoRound (go_on (first g) ending g next)
-      by (Gives v) =
-          let rest = more v in
-          record {
-            rounds = joined v ∙ (λ i. one.rounds i ++ rest.rounds i);
-            firm = λ q out. neither_loose ((first g).loose q) ((next v (last_of (first g) g)).loose q) (one.firm q out) (rest.firm q out);
-          }
-      by (Refuses fault) = record { rounds = one.rounds; firm = one.firm }
-      by (Breaks fault) = record { rounds = one.rounds; firm = one.firm }
+  tip_names : (branch : Option (List ℕ)) → Named Tip (tip_place (repo_of root) branch)
+  unfolding part_in
+  tip_names None = record { names = codes "HEAD" ∷ []; place = refl; is = refl }
+  tip_names (Some name) = record { names = codes "refs" ∷ codes "heads" ∷ pieces name; place = refl; is = refl }
 
-  -- what follows has no round
-  pub with_none : (round : Round) → AtMost (first g) round → ((v : V) → NoRound (next v (last_of (first g) g))) → AtMost (bind first next g) round
-  unfolding bind
-  with_none round one none = by (first g).ending
-    where
-      by : (ending : Ending V) → AtMost (go_on (first g) ending g next) round
-      by (Gives v) =
-          let rest = none v in
-          let here : rounds_in (first g) ≡ rounds_in (first g) ++ [] = nothing_more (rounds_in (first g)) in
-          let same : rounds_of ((first g).events ++ (next v (last_of (first g) g)).events) ≡ rounds_in (first g) = joined v ∙ ap (λ (rs : List Round). rounds_in (first g) ++ rs) rest.rounds ∙ sym here in
-          record {
-            rounds = elim one.rounds [ inl e ↦ inl (same ∙ e) | inr e ↦ inr (same ∙ e) ];
-            firm = λ q out. neither_loose ((first g).loose q) ((next v (last_of (first g) g)).loose q) (one.firm q out) (rest.firm q out);
-          }
-      by (Refuses fault) = record { rounds = one.rounds; firm = one.firm }
-      by (Breaks fault) = record { rounds = one.rounds; firm = one.firm }
+  named : (part : Part) (q : Names) → Of part q → Named part q
+  unfolding part_in
+  named Contents q (key, at) = record { names = content_names key; place = at; is = refl }
+  named Logs q (key, at) = record { names = log_names key; place = at; is = refl }
+  named Objects q (x, gone, at) = record { names = names_of_object (hex_of (oid x.kind x.body)); place = at; is = refl }
+  named Tip q at =
+      let tip = tip_names (branch_by (head_at (repo_of root) g)) in
+      record { names = tip.names; place = at ∙ tip.place; is = tip.is }
 
-  -- what follows has one
-  pub with_one : (one two : Round) → AtMost (first g) one → ((v : V) → AtMost (next v (last_of (first g) g)) two) → OfTwo (bind first next g) one two
-  unfolding bind
-  with_one one two of_one more = by (first g).ending
-    where
-      begun : (rounds_in (first g) ≡ []) ⊎ (rounds_in (first g) ≡ one ∷ []) → (rounds_in (first g) ≡ []) ⊎ ((rounds_in (first g) ≡ one ∷ []) ⊎ ((rounds_in (first g) ≡ two ∷ []) ⊎ (rounds_in (first g) ≡ one ∷ two ∷ [])))
-      begun (inl e) = inl e
-      begun (inr e) = inr (inl e)
+  one_name : (one two : Part) (q : Names) → Named one q → Named two q → one ≡ two
+  one_name one two q a b = sym a.is ∙ ap part_in (same_rest (repo_of root) a.names b.names (sym a.place ∙ b.place)) ∙ b.is
 
-      both : (rs front back : List Round) → rs ≡ front ++ back → (front ≡ []) ⊎ (front ≡ one ∷ []) → (back ≡ []) ⊎ (back ≡ two ∷ []) → (rs ≡ []) ⊎ ((rs ≡ one ∷ []) ⊎ ((rs ≡ two ∷ []) ⊎ (rs ≡ one ∷ two ∷ [])))
-      both rs front back is (inl a) (inl b) = inl (is ∙ (λ i. a i ++ b i))
-      both rs front back is (inr a) (inl b) = inr (inl (is ∙ (λ i. a i ++ b i)))
-      both rs front back is (inl a) (inr b) = inr (inr (inl (is ∙ (λ i. a i ++ b i))))
-      both rs front back is (inr a) (inr b) = inr (inr (inr (is ∙ (λ i. a i ++ b i))))
+  pub one_part : (one two : Part) (q : Names) → Of one q → Of two q → one ≡ two
+  one_part one two q a b = one_name one two q (named one q a) (named two q b)
 
-      by : (ending : Ending V) → OfTwo (go_on (first g) ending g next) one two
-      by (Gives v) =
-          let rest = more v in
-          record {
-            rounds = both _ (rounds_in (first g)) (rounds_in (next v (last_of (first g) g))) (joined v) of_one.rounds rest.rounds;
-            firm = λ q out. neither_loose ((first g).loose q) ((next v (last_of (first g) g)).loose q) (of_one.firm q out) (rest.firm q out);
-          }
-      by (Refuses fault) = record { rounds = begun of_one.rounds; firm = of_one.firm }
-      by (Breaks fault) = record { rounds = begun of_one.rounds; firm = of_one.firm }
+  -- only one part has tips
+  pub tip_apart : (part : Part) (branch : Option (List ℕ)) → part ≢ Tip → Of part (tip_place (repo_of root) branch) → ⊥
+  tip_apart part branch differ at = differ (one_name part Tip (tip_place (repo_of root) branch) (named part (tip_place (repo_of root) branch) at) (tip_names branch))
 
--- LINES
-lines_none : (lines : List Line) (g : Ground) → NoRound (says_all lines g)
-unfolding fold bind says gives
-lines_none [] g = record { rounds = refl; firm = λ q out. refl }
-lines_none (line ∷ lines) g = let rest = lines_none lines g in record { rounds = rest.rounds; firm = rest.firm }
+  -- a place of a part is of none of the others
+  pub apart_of : (part : Part) (q : Names) → Of part q → (parts : List Part) → AllByRecursion (λ other. part ≢ other) parts → IsApart root g parts q
+  apart_of part q at [] others = tt
+  apart_of part q at (other ∷ parts) others = (λ too. others.0 (one_part part other q at too), apart_of part q at parts others.1)
 
-pub nothing_none : (g : Ground) → NoRound (saves_nothing g)
-unfolding saves_nothing bind says gives
-nothing_none g = record { rounds = refl; firm = λ q out. refl }
+  -- an object's place is of no content and of no log
+  object_names : (x : NewObject) → Named Objects (place_in (repo_of root) x)
+  unfolding part_in
+  object_names x = record { names = names_of_object (hex_of (oid x.kind x.body)); place = refl; is = refl }
 
--- OBJECTS
-some_most : (list : List Replacement) (g : Ground) → AtMost (puts_some list g) (whole_round list)
-unfolding gives
-some_most [] g = record { rounds = inl refl; firm = λ q out. refl }
-some_most (r ∷ list) g = let one = puts_round (r ∷ list) g in record { rounds = one.rounds; firm = λ q out. (one.firm q out).firm }
+  pub object_apart : (x : NewObject) → IsApart root g (Contents ∷ Logs ∷ []) (place_in (repo_of root) x)
+  object_apart x = (
+    λ at. cc (one_name Contents Objects (place_in (repo_of root) x) (named Contents (place_in (repo_of root) x) at) (object_names x)),
+    ((λ at. cc (one_name Logs Objects (place_in (repo_of root) x) (named Logs (place_in (repo_of root) x) at) (object_names x))), tt),
+  )
 
-module _ (root : Names) (plan : SavePlan) (g : Ground) where
-  abbrev repo : Names
-  repo = repo_of root
+  -- ---- what the rounds leave
 
-  -- the ground at which the tip is set
-  abbrev pub put_ground : Ground
-  put_ground = last_of (puts_objects repo plan.objects g) g
+  pub all_left : {parts : List Part} {rounds : List Round} (q : Names) → is_tmp q ≡ false → AreOf root g parts rounds → IsApart root g parts q → AllLeave rounds q
+  all_left q out ended apart = tt
+  all_left q out (skips rest) apart = all_left q out rest apart.1
+  all_left q out (takes round rest) apart = (⊎_elim (λ left. left) (λ at. absurd (apart.0 at)) (round q out), all_left q out rest apart.1)
 
-  abbrev pub put_round : Round
-  put_round = whole_round (staging repo 0 (missing repo plan.objects g))
+  pub at_most_once : {parts : List Part} {rounds : List Round} (q : Names) → is_tmp q ≡ false → AreOwn parts → AreOf root g parts rounds → AtMostOnce rounds q
+  at_most_once q out own ended = never
+  at_most_once q out own (skips rest) = at_most_once q out own.1 rest
+  at_most_once q out own (takes {part = part} {parts = parts} round rest) = ⊎_elim
+      (λ left. not_here left (at_most_once q out own.1 rest))
+      (λ at. not_later (all_left q out rest (apart_of part q at parts own.0)))
+      (round q out)
 
-  abbrev pub tip_round : Round
-  tip_round = whole_round (only (tmp_place repo 0) (tip_at repo put_ground) (id_text plan.commit))
+  -- what isn't left is of a part
+  pub left_or_of : {parts : List Part} {rounds : List Round} (q : Names) → is_tmp q ≡ false → AreOf root g parts rounds → AllLeave rounds q ⊎ ((part : Part) × Of part q)
+  left_or_of q out ended = inl tt
+  left_or_of q out (skips rest) = left_or_of q out rest
+  left_or_of q out (takes {part = part} round rest) = ⊎_elim
+      (λ left. ⊎_elim (λ more. inl (left, more)) (λ found. inr found) (left_or_of q out rest))
+      (λ at. inr (part, at))
+      (round q out)
 
-  pub put_most : AtMost (puts_objects repo plan.objects g) put_round
-  unfolding puts_objects bind unless
-  put_most = by (early_fault repo plan.objects g)
-    where
-      by : (o : Option Fault) → AtMost (go_on (still (ending_of o)) (ending_of o) g (λ t. puts_missing repo plan.objects)) put_round
-      by (Some fault) = record { rounds = inl refl; firm = λ q out. refl }
-      by None = let one = some_most (staging repo 0 (missing repo plan.objects g)) g in record { rounds = one.rounds; firm = one.firm }
+  -- ---- how they are put together
 
-  -- TIP
-  abbrev rest : Step (Option Id)
-  rest = bind (says_all plan.lines) (λ t. gives (Some (record { 0 = plan.commit })))
+  pub no_round : (parts : List Part) → AreOf root g parts []
+  no_round [] = ended
+  no_round (part ∷ parts) = skips (no_round parts)
 
-  rest_none : (h : Ground) → NoRound (rest h)
-  unfolding gives
-  rest_none h = none_then (says_all plan.lines) (λ t. gives (Some (record { 0 = plan.commit }))) h (lines_none plan.lines h) (λ v. record { rounds = refl; firm = λ q out. refl })
+  more_parts : {parts : List Part} {rounds : List Round} → AreOf root g parts rounds → (more : List Part) → AreOf root g (parts ++ more) rounds
+  more_parts ended more = no_round more
+  more_parts (skips rest) more = skips (more_parts rest more)
+  more_parts (takes round rest) more = takes round (more_parts rest more)
 
-  tip_most : (h : Ground) → AtMost (bind (sets_tip repo plan.commit) (λ t. rest) h) (whole_round (only (tmp_place repo 0) (tip_at repo h) (id_text plan.commit)))
-  tip_most h =
-      let one = set_round repo plan.commit h in
-      with_none (sets_tip repo plan.commit) (λ t. rest) h _ (record { rounds = one.rounds; firm = λ q out. (one.firm q out).firm }) (λ v. rest_none _)
+  both_parts : {parts more : List Part} {rounds others : List Round} → AreOf root g parts rounds → AreOf root g more others → AreOf root g (parts ++ more) (rounds ++ others)
+  both_parts ended two = two
+  both_parts (skips rest) two = skips (both_parts rest two)
+  both_parts (takes round rest) two = takes round (both_parts rest two)
 
-  written : OfTwo (writes root plan g) put_round tip_round
-  written = with_one (puts_objects repo plan.objects) (λ t. bind (sets_tip repo plan.commit) (λ u. rest)) g put_round tip_round put_most (λ v. tip_most put_ground)
+  pub more_of : {V : Type 0} {act : Act V} {parts : List Part} → IsActOf root g parts act → (more : List Part) → IsActOf root g (parts ++ more) act
+  more_of of more = record { rounds = more_parts of.rounds more; firm = of.firm }
 
-  -- THE SAVE
-  pub saved_rounds : OfTwo (saves root plan g) put_round tip_round
-  unfolding saves bind unless
-  saved_rounds = by (clash_fault [] plan.objects)
-    where
-      by : (o : Option Fault) → OfTwo (go_on (still (ending_of o)) (ending_of o) g (λ t. writes root plan)) put_round tip_round
-      by (Some fault) = record { rounds = inl refl; firm = λ q out. refl }
-      by None = let two = written in record { rounds = two.rounds; firm = two.firm }
+  pub still_of : {V : Type 0} (ending : Ending V) (parts : List Part) → IsActOf root g parts (still ending)
+  still_of ending parts = record { rounds = no_round parts; firm = λ q out. refl }
+
+  module _ {V W : Type 0} (first : Step V) (next : V → Step W) (h : Ground) (parts more : List Part) (one : IsActOf root g parts (first h)) (rest : (v : V) → IsActOf root g more (next v (last_of (first h) h))) where
+    pub bind_of : IsActOf root g (parts ++ more) (bind first next h)
+    unfolding bind
+    bind_of = by (first h).ending
+      where
+        by : (ending : Ending V) → IsActOf root g (parts ++ more) (go_on (first h) ending h next)
+        by (Gives v) =
+            let two = rest v in
+            record {
+              rounds = subst (AreOf root g (parts ++ more)) (sym (rounds_append (first h).events (next v (last_of (first h) h)).events)) (both_parts one.rounds two.rounds);
+              firm = λ q out. neither_loose ((first h).loose q) ((next v (last_of (first h) h)).loose q) (one.firm q out) (two.firm q out);
+            }
+        by (Refuses fault) = record { rounds = more_parts one.rounds more; firm = one.firm }
+        by (Breaks fault) = record { rounds = more_parts one.rounds more; firm = one.firm }
+
+  -- ---- files that are put
+
+  -- each goes by way of an unfinished write to a place of the part
+  abbrev pub ArePutAt : Part → List Replacement → Type 0
+  ArePutAt part list = AllByRecursion (λ r. (is_tmp r.tmp ≡ true) × (is_tmp r.place ≡ false → Of part r.place)) list
+
+  no_tmp : (q tmp : Names) → is_tmp q ≡ false → is_tmp tmp ≡ true → q ≢ tmp
+  no_tmp q tmp out inside e = false≢true (sym out ∙ ap is_tmp e ∙ inside)
+
+  removal_left : (part : Part) (list : List Replacement) → ArePutAt part list → (q : Names) → is_tmp q ≡ false → LeftBy (removal_of (map (λ r. r.tmp) list)) q
+  removal_left part [] at q out = tt
+  removal_left part (r ∷ list) at q out = (no_tmp q r.tmp out at.0.0, removal_left part list at.1 q out)
+
+  placed_or : (part : Part) (list : List Replacement) → ArePutAt part list → (q : Names) → is_tmp q ≡ false → LeftBy (round_of list) q ⊎ Of part q
+  placed_or part [] at q out = inl tt
+  placed_or part (r ∷ list) at q out = elim (cases_place q r.place) [
+    | inl is ↦ inr (subst (Of part) (sym is) (at.0.1 (subst (λ (z : Names). is_tmp z ≡ false) is out)))
+    | inr differ ↦ ⊎_elim (λ left. inl (differ, left)) (λ found. inr found) (placed_or part list at.1 q out)
+  ]
+
+  put_round : (part : Part) (list : List Replacement) → ArePutAt part list → IsRoundOf root g part (whole_round list)
+  put_round part list at q out = ⊎_elim (λ left. inl (left_both _ _ q (removal_left part list at q out) left)) (λ found. inr found) (placed_or part list at q out)
+
+  pub puts_of : (part : Part) (list : List Replacement) (h : Ground) → ArePutAt part list → IsActOf root g (part ∷ []) (puts list h)
+  puts_of part list h at =
+      let put = puts_round list h in
+      record {
+        rounds = elim put.rounds [
+          | inl none ↦ subst (AreOf root g (part ∷ [])) (sym none) (skips ended)
+          | inr one ↦ subst (AreOf root g (part ∷ [])) (sym one) (takes (put_round part list at) ended)
+        ];
+        firm = λ q out. (put.firm q out).firm;
+      }

@@ -1,8 +1,8 @@
 -- The save of a dataset: its refusals, and its acts.
-use Rattle.std.proofs.Common.{◌≡◌, ◌<◌, inl, inr, ℕ, Bool, true, false, IsTrue, nat_lt, cond, List, [], ◌∷◌, ◌++◌, length, Option, None, Some, Result, Ok, Err, refl, sym, ap, ◌∙◌, subst, arith, append_assoc}
-use Rattle.std.specs.Prelude.{codes, bytes_eq, ◌&&◌, not}
-use Rattle.places.specs.All.{Names, text_of, joined, longest, Ground}
-use Rattle.places.proofs.Cuts.{below_text}
+use Rattle.std.proofs.Common.{◌≡◌, inl, inr, ℕ, Bool, true, false, IsTrue, cond, List, [], ◌∷◌, ◌++◌, Option, None, Some, Result, Ok, Err, refl, sym, ap, ◌∙◌, subst, arith}
+use Rattle.std.specs.Prelude.{codes, bytes_eq, ◌&&◌, ◌||◌, not}
+use Rattle.places.specs.All.{Names, Ground}
+use Rattle.places.proofs.Texts.{or_neither}
 use Rattle.file_store.specs.All.{or_next, Drive, History, present}
 use Rattle.faults.specs.declared.lines.Line.{Line}
 use Rattle.faults.specs.declared.faults.Fault.{Fault}
@@ -10,31 +10,45 @@ use Rattle.faults.specs.declared.faults.Trouble.{Trouble}
 use Rattle.faults.specs.declared.faults.Fault.TheVariants.{TooLarge, Blocked, Damaged, Missing}
 use Rattle.faults.specs.declared.faults.Fault.TheVariants.{BadTree, BadCommit, UnsupportedMode}
 use Rattle.faults.specs.declared.faults.Fault.TheVariants.{OddKind, Dirty, PathClash, BadLine}
-use Rattle.faults.specs.declared.faults.Fault.TheVariants.{Collision}
+use Rattle.faults.specs.declared.faults.Fault.TheVariants.{Collision, BadLog, TimeFull}
 use Rattle.faults.specs.declared.faults.Trouble.TheVariants.{Refused, Device, NoMemory}
 use Rattle.git_objects.specs.All.{oid}
 use Rattle.git_objects.specs.declared.ids.Id.{Id}
-use Rattle.repository.specs.All.{repo_of, repo_head, is_repo, large}
+use Rattle.config_text.specs.All.{plain_config}
+use Rattle.config_text.specs.declared.repository.RepoConfig.{RepoConfig}
+use Rattle.repository.specs.All.{repo_of, repo_head, is_repo}
 use Rattle.repository.proofs.Unfinished.{repo_below}
-use Rattle.acts.specs.All.{Acts, ActsAs, ActsQuietly, Reads, Step}
-use Rattle.acts.proofs.Laws.{seq, fails, handed, by_name, done, pushed, stops, passes, quiet, after_reading}
-use Rattle.acts.proofs.Reading.{read_after}
+use Rattle.acts.specs.All.{Act, Acts, ActsAs, ActsQuietly, Breaks, Ending, EndsRefused, Gives, Goes, HasCause}
+use Rattle.acts.specs.All.{Reads, Refuses, Step, bind, gives}
+use Rattle.acts.proofs.Laws.{seq, handed, by_name, done, pushed, passes, quiet, after_reading}
+use Rattle.acts.proofs.Folds.{said_each}
 use Rattle.acts.proofs.As.{as_allowed, as_starved, as_refused, as_unread}
+use Rattle.annex_store.specs.All.{AreOutside, IsKeepAll, KeepAllEnds, MayKeepAll, MayKeepMember}
+use Rattle.annex_store.specs.declared.members.NewContent.{NewContent}
 use Rattle.object_store.specs.All.{IsFoundAmong, MayPut, object_text, puts_objects, IsFound}
 use Rattle.object_store.specs.declared.objects.NewObject.{NewObject}
-use Rattle.ref_store.specs.All.{long_place, damaged_unless, head_at, sets_tip, lead_fault}
-use Rattle.ref_store.specs.All.{MaySetTip}
-use Rattle.ref_store.proofs.Fitting.{long_is}
-use Rattle.recursive_save.specs.Saving.{MaySave, IsSave, unread, clean, unplanned, saved}
-use Rattle.recursive_save.specs.Saving.{clash_with, clash_fault, dataset_line, saves, saves_nothing}
-use Rattle.recursive_save.specs.Saving.{writes}
-use Rattle.tree_status.specs.All.{IsUnread, IsView, MayView, IsRepo, is_changed, working}
-use Rattle.tree_status.proofs.Statuses.{long_seen}
-use Rattle.recursive_save.proofs.Handed.{as_put}
-use Rattle.recursive_save.specs.Planned.{IsPlannedOf, IsPlanRefusal, MayPlan, plan_of}
-use Rattle.recursive_save.specs.declared.planning.Planned.{Planned}
+use Rattle.ref_store.specs.All.{damaged_unless, head_at, sets_tip, lead_fault, MaySetTip}
+use Rattle.snapshot.specs.declared.entries.Entry.{Entry}
+use Rattle.tree_status.specs.All.{IsUnread, IsView, MayView, IsRepo, added, deleted, is_changed, is_nothing}
+use Rattle.tree_status.specs.All.{is_other, lacking}
+use Rattle.tree_status.specs.declared.found.WorkingFile.{WorkingFile}
 use Rattle.tree_status.specs.declared.viewing.View.{View}
+use Rattle.tree_status.proofs.Statuses.{long_seen}
+use Rattle.recursive_save.specs.Configured.{ConfigReads}
+use Rattle.recursive_save.specs.Contents.{ContentsFail, HaveSources, contents}
+use Rattle.recursive_save.specs.Planned.{IsPlannedOf, IsPlanRefusal, MayPlan, plan_of}
+use Rattle.recursive_save.specs.Saving.{MaySave, IsSave, IsWritten, SavePlan, unread, clashing, clean, unplanned, kept, saved}
+use Rattle.recursive_save.specs.Saving.{blobs_in, clash_with, clash_fault, dataset_line, plan_fault, save_lines}
+use Rattle.recursive_save.specs.Saving.{saves, saves_contents, saves_nothing, says_all, settings_fault, sum_fault}
+use Rattle.recursive_save.specs.Saving.{writes}
+use Rattle.recursive_save.specs.declared.planning.Planned.{Planned}
 use Rattle.recursive_save.specs.declared.wishes.SaveWish.{SaveWish}
+use Rattle.recursive_save.proofs.Following.{as_after, as_fails, as_mapped, as_seq, one_act}
+use Rattle.recursive_save.proofs.Handed.{as_put}
+use Rattle.recursive_save.proofs.KeepEnds.{EndsBy, NotDirty, never_dirty}
+use Rattle.recursive_save.proofs.PlanFacts.{config_may, unconfigured}
+use Rattle.recursive_save.proofs.Sources.{have_sources}
+use Rattle.recursive_save.proofs.There.{are_below, are_of}
 
 -- THE FAULTS
 view_may : (tells : Bool) (root : Names) (fault : Fault) → MayView tells root fault → MaySave tells root fault
@@ -85,7 +99,7 @@ among P repo fault each (object ∷ objects) (inl here) = each object here
 among P repo fault each (object ∷ objects) (inr there) = among P repo fault each objects there
 
 put_may : (tells : Bool) (root : Names) (objects : List NewObject) (fault : Fault) → MayPut tells (repo_of root) objects fault → MaySave tells root fault
-put_may tells root objects (TooLarge path size) may = inr (inr (inr may))
+put_may tells root objects (TooLarge path size) may = inr (inr (inr (inr may)))
 put_may tells root objects (Blocked at) may = may
 put_may tells root objects (Collision id) may = tt
 put_may tells root objects (Damaged place) may =
@@ -95,7 +109,7 @@ put_may tells root objects fault may = among (MaySave tells root fault) (repo_of
 tip_may : (tells : Bool) (root : Names) (fault : Fault) → MaySetTip tells (repo_of root) fault → MaySave tells root fault
 tip_may tells root (Damaged place) may = inl (None, tt, may)
 tip_may tells root (TooLarge path size) (inl over) = inl (inl (repo_head (repo_of root), (None, tt, refl), over))
-tip_may tells root (TooLarge path size) (inr over) = inr (inr (inr over))
+tip_may tells root (TooLarge path size) (inr over) = inr (inr (inr (inr over)))
 tip_may tells root (Blocked at) may = may
 tip_may tells root fault may = absurd may
 
@@ -119,6 +133,85 @@ module _ (tells : Bool) (root : Names) where
       quiet (handed (λ fault may. tip_may tells root fault (subst (λ (p : Names). MaySetTip tells p fault) at may))
       (by_name (λ i. sets_tip (at i) id) (acts (ap is_repo at ∙ repo_below root))))
 
+-- THE KEEPING of contents
+member_may : (tells : Bool) (root : Names) (x : NewContent) (fault : Fault) → NotDirty fault → MayKeepMember (repo_of root) x fault → MaySave tells root fault
+member_may tells root x (BadLog at line) pure may = (x.key, may)
+member_may tells root x (TimeFull text) pure may = (x.key, may)
+member_may tells root x (TooLarge path size) pure may = inr (inr (inr (inl (x.key, may))))
+member_may tells root x (Dirty path) pure may = absurd pure
+member_may tells root x fault pure may = absurd may
+
+keep_may : (tells : Bool) (root : Names) (list : List NewContent) (fault : Fault) → NotDirty fault → MayKeepAll tells (repo_of root) list fault → MaySave tells root fault
+keep_may tells root list (TooLarge path size) pure (inl long) = inr (inr (inr (inr long)))
+keep_may tells root list (Blocked at) pure (inl may) = may
+keep_may tells root list fault pure (inl may) = absurd may
+keep_may tells root [] fault pure (inr none) = absurd none
+keep_may tells root (x ∷ list) fault pure (inr (inl here)) = member_may tells root x fault pure here
+keep_may tells root (x ∷ list) fault pure (inr (inr rest)) = keep_may tells root list fault pure (inr rest)
+
+fault_may : (tells : Bool) (root : Names) (list : List NewContent) (fault : Fault) → (IsTrue tells → NotDirty fault) → MayKeepAll tells (repo_of root) list fault → MaySave tells root fault
+fault_may tells root list (Dirty path) pure may = pure
+fault_may tells root list fault pure may = keep_may tells root list fault tt may
+
+ended_pure : {V : Type 0} (e : Ending V) (fault : Fault) (reaches : Type 0) → EndsBy NotDirty e → EndsRefused e fault reaches → NotDirty fault
+ended_pure (Gives v) fault reaches pure ends = absurd ends
+ended_pure (Refuses own) fault reaches pure ends = subst NotDirty ends.0 pure
+ended_pure (Breaks own) fault reaches pure ends = subst NotDirty ends pure
+
+module _ (tells : Bool) (root : Names) (uuid : List ℕ) (list : List NewContent) (moment : ℕ) where
+  abbrev pub Keeping : List Line → List Line → Drive → Drive → Result (Unit {0}) Trouble → Type 0
+  Keeping l0 l1 d0 d1 r = ActsAs (λ fault. MaySave tells root fault) tells (λ g keeps. IsKeepAll (repo_of root) uuid list moment g keeps) l0 l1 d0 d1 r
+
+  module _ {old new : Drive} (sources : IsTrue tells → HaveSources (present old) list) where
+    -- no source lacks its content
+    is_pure : (fault : Fault) → KeepAllEnds tells (repo_of root) uuid list moment old new (Err (Refused fault)) → IsTrue tells → NotDirty fault
+    is_pure fault acts t = elim (acts.told t) [
+      | inl halted ↦ absurd halted.why
+      | inr (act, is, goes) ↦ ended_pure act.ending fault _ (never_dirty (repo_of root) uuid moment (present old) list act (sources t) is) goes.ends.ending
+    ]
+
+    cause_of : (r : Result (Unit {0}) Trouble) → KeepAllEnds tells (repo_of root) uuid list moment old new r → HasCause (λ fault. MaySave tells root fault) r
+    cause_of (Ok v) acts = tt
+    cause_of (Err (Refused fault)) acts = fault_may tells root list fault (is_pure fault acts) acts.cause
+    cause_of (Err Device) acts = tt
+    cause_of (Err NoMemory) acts = tt
+
+    pub keeps_them : {repo : Names} {given : List NewContent} {l : List Line} {r : Result (Unit {0}) Trouble} → repo ≡ repo_of root → given ≡ list → AreOutside (repo_of root) list
+        → (IsTrue (is_repo repo) → AreOutside repo given → KeepAllEnds tells repo uuid given moment old new r) → Keeping l l old new r
+    keeps_them {repo} {given} {l} {r} at is outside ends =
+        let there : AreOutside repo given = subst (λ (p : Names). AreOutside p given) (sym at) (subst (AreOutside (repo_of root)) (sym is) outside) in
+        let acts = subst (λ (p : Names). KeepAllEnds tells p uuid list moment old new r) at
+        (subst (λ (z : List NewContent). KeepAllEnds tells repo uuid z moment old new r) is (ends (ap is_repo at ∙ repo_below root) there)) in
+        record {
+          later = acts.later;
+          cause = cause_of r acts;
+          told = λ t. elim (acts.told t) [
+            | inl halted ↦ inl (record { why = halted.why; said = refl; kept = halted.kept })
+            | inr (act, is, goes) ↦ inr (act, is, (quiet (one_act acts act goes)).told t)
+          ];
+        }
+
+-- CONTENTS AND A PLAN
+module _ (tells : Bool) (root : Names) (uuid : List ℕ) (list : List NewContent) (moment : ℕ) (plan : SavePlan) where
+  abbrev pub WritesAll : List Line → List Line → Drive → Drive → Result (Option Id) Trouble → Type 0
+  WritesAll l0 l1 d0 d1 r = ActsAs (λ fault. MaySave tells root fault) tells (λ g act. IsWritten root uuid list moment plan g act) l0 l1 d0 d1 r
+
+  joined_act : (g : Ground) (keeps : Act (Unit {0})) → IsKeepAll (repo_of root) uuid list moment g keeps → IsWritten root uuid list moment plan g (bind (λ _. keeps) (λ _. writes root plan) g)
+  joined_act g keeps is = record { keeps = keeps; keep = is; is = refl }
+
+  pub not_kept : {l : List Line} {old new : Drive} {e : Trouble} → Keeping tells root uuid list moment l l old new (Err e) → WritesAll l l old new (Err e)
+  not_kept {l} {old} {new} {e} keeping = as_fails (λ _. writes root plan) (λ t keeps is. joined_act (present old) keeps is) keeping
+
+  pub kept_and_written : {l m : List Line} {old mid new : Drive} {r : Result (Option Id) Trouble} → Keeping tells root uuid list moment l l old mid (Ok tt) → Writing tells root (writes root plan) l m mid new r → WritesAll l m old new r
+  kept_and_written {l} {m} {old} {mid} {new} {r} keeping writing = as_seq (λ _. writes root plan) (λ t keeps is. joined_act (present old) keeps is) keeping writing
+
+none_added : (old : List Entry) (files : List WorkingFile) → is_other old files ≡ false → added old files ≡ []
+none_added old files same = by (added old files) (or_neither (not (is_nothing (added old files))) (not (is_nothing (deleted old files))) same).0
+  where
+    by : (list : List WorkingFile) → not (is_nothing list) ≡ false → list ≡ []
+    by [] is = refl
+    by (x ∷ list) is = absurd (cc is)
+
 -- THE SAVE
 module _ (tells : Bool) (root : Names) (wish : SaveWish) where
   abbrev pub Saves : List Line → List Line → Drive → Drive → Result (Option Id) Trouble → Type 0
@@ -136,71 +229,150 @@ module _ (tells : Bool) (root : Names) (wish : SaveWish) where
 
   -- what is looked at isn't read
   pub unviewed : {l : List Line} {old new : Drive} (e : Trouble)
-      → Reads (λ fault. MayView tells root fault) tells (λ g view. IsView root g view) (λ g fault. IsUnread root g fault) old new (Err e)
+      → Reads (λ fault. MayView tells root fault) tells (λ g view. IsView root wish.to_git g view) (λ g fault. IsUnread root wish.to_git g fault) old new (Err e)
       → Saves l l old new (Err e)
   unviewed e reads = as_unread e (λ fault may. view_may tells root fault may) (λ t fault is. unread fault is) reads
 
   module _ {view : View} {old mid : Drive}
-      (viewed : Reads (λ fault. MayView tells root fault) tells (λ g view. IsView root g view) (λ g fault. IsUnread root g fault) old mid (Ok view)) where
-    at_start : IsTrue tells → IsView root (present old) view
+      (viewed : Reads (λ fault. MayView tells root fault) tells (λ g view. IsView root wish.to_git g view) (λ g fault. IsUnread root wish.to_git g fault) old mid (Ok view)) where
+    at_start : IsTrue tells → IsView root wish.to_git (present old) view
     at_start t = (viewed.told t).answer
 
-    -- where the plan begins, what was looked at is that of the ground
-    pub looked_at : IsTrue tells → IsView root (present mid) view
-    looked_at t = subst (λ (h : History). IsView root h.latest.now view) (sym (viewed.told t).same) (at_start t)
+    -- where the saving begins, what was looked at is that of the ground
+    pub looked_at : IsTrue tells → IsView root wish.to_git (present mid) view
+    looked_at t = subst (λ (h : History). IsView root wish.to_git h.latest.now view) (sym (viewed.told t).same) (at_start t)
 
     -- memory is wanting
     pub starved_then : {l : List Line} → Saves l l old mid (Err NoMemory)
     starved_then = as_starved viewed.later (λ t. (viewed.told t).same)
 
-    module _ {changed : Bool} (is : (g : Ground) → IsView root g view → changed ≡ is_changed view.old (working root g)) where
-      -- nothing has changed
-      pub unchanged : {line : Line} {l m : List Line} → changed ≡ false → line ≡ dataset_line (codes "notneeded") → m ≡ l ++ line ∷ [] → Saves l m old mid (Ok None)
-      unfolding saves_nothing
-      unchanged {line} none same pushes =
-          as_allowed saves_nothing (λ t. clean view.parent.0 view.old (at_start t).read (sym (is (present old) (at_start t)) ∙ none))
-          (after_reading viewed.later (λ t. (viewed.told t).same) (seq _ (pushed _ line pushes same) done))
+    -- nothing has changed
+    pub unchanged : {changed : Bool} {line : Line} {l m : List Line} → changed ≡ is_changed view.by.old view.files.items → changed ≡ false → line ≡ dataset_line (codes "notneeded") → m ≡ l ++ line ∷ [] → Saves l m old mid (Ok None)
+    unfolding saves_nothing
+    unchanged {changed} {line} is none same pushes =
+        as_allowed saves_nothing (λ t. clean view.parent.0 view.by view.files.items (at_start t) (sym is ∙ none))
+        (after_reading viewed.later (λ t. (viewed.told t).same) (seq _ (pushed _ line pushes same) done))
 
-      module _ (some : changed ≡ true) where
-        differs : (t : IsTrue tells) → is_changed view.old (working root (present old)) ≡ true
-        differs t = sym (is (present old) (at_start t)) ∙ some
+    -- something has
+    pub viewed_first : {l m : List Line} {new : Drive} {r : Result (Option Id) Trouble} → Saves l m mid new r → Saves l m old new r
+    viewed_first rest = as_after viewed.later (λ t. (viewed.told t).same) rest
 
-        -- no commit is planned
-        pub not_planned : {l : List Line} {new : Drive} (e : Trouble)
-            → Reads (λ fault. MayPlan tells root fault) tells (λ g planned. IsPlannedOf root wish view g planned) (λ g fault. IsPlanRefusal root view g fault) mid new (Err e)
-            → Saves l l old new (Err e)
-        not_planned e reads =
-            as_unread e (λ fault may. plan_may tells root fault may)
-            (λ t fault why. unplanned view.parent.0 view.old fault (at_start t).read (differs t) (why (at_start t)))
-            (read_after viewed.later (λ t. (viewed.told t).same) reads)
+  -- THE CONTENTS of what was looked at
+  module _ (view : View) (old : Drive) (looked : IsTrue tells → IsView root wish.to_git (present old) view) where
+    abbrev list : List NewContent
+    list = contents root view.by view.files.items
 
-        module _ {planned : Planned} {new : Drive}
-            (plans : Reads (λ fault. MayPlan tells root fault) tells (λ g planned. IsPlannedOf root wish view g planned) (λ g fault. IsPlanRefusal root view g fault) mid new (Ok planned)) where
-          both : Reads (λ fault. MayPlan tells root fault) tells (λ g planned. IsPlannedOf root wish view g planned) (λ g fault. IsPlanRefusal root view g fault) old new (Ok planned)
-          both = read_after viewed.later (λ t. (viewed.told t).same) plans
+    -- they are there, and where something else has been read too
+    sources_at : (now : Drive) → (IsTrue tells → now.history ≡ old.history) → IsTrue tells → HaveSources (present now) list
+    sources_at now same t = subst (λ (h : History). HaveSources h.latest.now list) (sym (same t)) (have_sources root wish.to_git (present old) view.parent.0 view.by view.files.items (looked t))
 
-          planned_so : IsTrue tells → IsSave root wish (present old) (saves root (plan_of planned) (present old))
-          planned_so t =
-              let so = (both.told t).answer (at_start t) in
-              saved view.parent.0 view.old (plan_of planned) (at_start t).read (differs t) so.0 so.1
+    -- none is left out for its place
+    contents_may : (fault : Fault) → ContentsFail root view.files.items (Refused fault) → MaySave tells root fault
+    contents_may (Dirty path) not = λ t. not (are_below root (present old) view.by view.files.items (are_of root (present old) view.by wish.to_git view.parent.0 view.files.items (looked t)))
+    contents_may fault not = absurd not
 
-          -- memory is wanting
-          pub starved_last : {l : List Line} → Saves l l old new (Err NoMemory)
-          starved_last = as_starved both.later (λ t. (both.told t).same)
+    pub contents_fail : {l : List Line} {now : Drive} (e : Trouble) → now.faults ≡ old.faults → (IsTrue tells → now.history ≡ old.history) → ContentsFail root view.files.items e → Saves l l old now (Err e)
+    contents_fail (Refused (Dirty path)) stood same not =
+        as_refused (contents_may (Dirty path) not) stood (λ t. absurd (contents_may (Dirty path) not t))
+    contents_fail (Refused fault) stood same not = absurd not
+    contents_fail Device stood same not = absurd not
+    contents_fail NoMemory stood same not = as_starved stood same
 
-          -- two of the objects collide
-          pub collides : {fault : Fault} {l : List Line} → Some fault ≡ clash_fault [] planned.objects.items → Saves l l old new (Err (Refused fault))
+    -- A COMMIT
+    module _ (other : is_other view.by.old view.files.items ≡ true) where
+      differs : is_changed view.by.old view.files.items ≡ true
+      differs = ap (λ b. b || not (is_nothing (lacking view.files.items))) other
+
+      -- none is planned
+      pub not_planned : {l : List Line} {new : Drive} (e : Trouble)
+          → Reads (λ fault. MayPlan tells root fault) tells (λ g planned. IsPlannedOf root wish view g planned) (λ g fault. IsPlanRefusal root wish view g fault) old new (Err e)
+          → Saves l l old new (Err e)
+      not_planned e reads =
+          as_unread e (λ fault may. plan_may tells root fault may)
+          (λ t fault why. unplanned view.parent.0 view.by view.files.items fault (looked t) differs (why (looked t))) reads
+
+      module _ {planned : Planned} {mid : Drive}
+          (plans : Reads (λ fault. MayPlan tells root fault) tells (λ g planned. IsPlannedOf root wish view g planned) (λ g fault. IsPlanRefusal root wish view g fault) old mid (Ok planned)) where
+        -- memory is wanting
+        pub starved_last : {l : List Line} → Saves l l old mid (Err NoMemory)
+        starved_last = as_starved plans.later (λ t. (plans.told t).same)
+
+        pub contents_fail_then : {l : List Line} (e : Trouble) → ContentsFail root view.files.items e → Saves l l old mid (Err e)
+        contents_fail_then e not = contents_fail e plans.later (λ t. (plans.told t).same) not
+
+        pub sources_then : IsTrue tells → HaveSources (present mid) list
+        sources_then = sources_at mid (λ t. (plans.told t).same)
+
+        -- two of the objects collide
+        pub collides : {fault : Fault} {l : List Line} → Some fault ≡ clash_fault [] planned.objects.items → Saves l l old mid (Err (Refused fault))
+        collides {fault} why =
+            as_refused (clash_may tells root fault [] planned.objects.items (sym why)) plans.later (λ t.
+            let so = (plans.told t).answer (looked t) in
+            ((plans.told t).same, clashing view.parent.0 view.by view.files.items (plan_of planned) fault (looked t) other so.0 so.1 (sym why)))
+
+        -- it is written
+        module _ (none : None ≡ clash_fault [] planned.objects.items) where
+          act_of : (l m : List Line) (last : Drive) (r : Result (Option Id) Trouble) (first : WritesAll tells root planned.uuid list wish.moment (plan_of planned) l m old last r)
+              → IsTrue tells → (act : Act (Option Id)) → IsWritten root planned.uuid list wish.moment (plan_of planned) (present old) act → Goes act l m old last r
+              → (save : Act (Option Id)) × IsSave root wish (present old) save × Goes save l m old last r
           unfolding saves
-          collides {fault} why =
-              as_allowed (saves root (plan_of planned)) planned_so
-              (after_reading both.later (λ t. (both.told t).same)
-              (fails _ (stops (λ g. clash_fault [] planned.objects.items) (clash_may tells root fault [] planned.objects.items (sym why)) (λ t. sym why))))
+          act_of l m last r first t act is goes =
+              let so = (plans.told t).answer (looked t) in
+              let going : Goes (bind (λ _. is.keeps) (λ _. writes root (plan_of planned)) (present old)) l m old last r = subst (λ (a : Act (Option Id)). Goes a l m old last r) is.is goes in
+              let written : Acts (λ fault. MaySave tells root fault) tells (bind (λ _. is.keeps) (λ _. writes root (plan_of planned))) l m old last r =
+              record { later = first.later; cause = first.cause; told = λ _. going } in (
+                saves root (plan_of planned) is.keeps (present old),
+                saved view.parent.0 view.by view.files.items (plan_of planned) is.keeps (looked t) other so.0 so.1
+                    (record { uuid = planned.uuid; own = so.2; keep = is.keep }),
+                (seq _ (passes (λ g. clash_fault [] planned.objects.items) (λ _. sym none)) written).told t,
+              )
 
-          -- it is written
-          pub is_written : {l m : List Line} {last : Drive} {r : Result (Option Id) Trouble} → None ≡ clash_fault [] planned.objects.items
-              → Acts (λ fault. MaySave tells root fault) tells (writes root (plan_of planned)) l m new last r → Saves l m old last r
-          unfolding saves
-          is_written none acts =
-              as_allowed (saves root (plan_of planned)) planned_so
-              (after_reading both.later (λ t. (both.told t).same)
-              (seq _ (passes (λ g. clash_fault [] planned.objects.items) (λ t. sym none)) acts))
+          pub is_written : {l m : List Line} {last : Drive} {r : Result (Option Id) Trouble} → WritesAll tells root planned.uuid list wish.moment (plan_of planned) l m mid last r → Saves l m old last r
+          is_written {l} {m} {last} {r} writing =
+              let first = as_after plans.later (λ t. (plans.told t).same) writing in
+              as_mapped (act_of l m last r first) first
+
+    -- ONLY CONTENTS
+    module _ (changed : is_changed view.by.old view.files.items ≡ true) (same : is_other view.by.old view.files.items ≡ false) where
+      -- the configuration isn't read
+      pub not_configured : {l : List Line} {new : Drive} (e : Trouble) → ConfigReads tells root old new (Err e) → Saves l l old new (Err e)
+      not_configured e reads =
+          as_unread e (λ fault may. plan_may tells root fault (config_may tells root fault may))
+          (λ t fault why. unplanned view.parent.0 view.by view.files.items fault (looked t) changed (unconfigured root wish view (present old) (looked t) fault why)) reads
+
+      module _ {config : RepoConfig} {mid : Drive} (reads : ConfigReads tells root old mid (Ok config)) where
+        abbrev lines : List Line
+        lines = save_lines view.by.old view.files.items (codes "notneeded")
+
+        -- memory is wanting
+        pub starved_read : {l : List Line} → Saves l l old mid (Err NoMemory)
+        starved_read = as_starved reads.later (λ t. (reads.told t).same)
+
+        pub contents_fail_read : {l : List Line} (e : Trouble) → ContentsFail root view.files.items e → Saves l l old mid (Err e)
+        contents_fail_read e not = contents_fail e reads.later (λ t. (reads.told t).same) not
+
+        pub sources_read : IsTrue tells → HaveSources (present mid) list
+        sources_read = sources_at mid (λ t. (reads.told t).same)
+
+        none_refuses : (g : Ground) → settings_fault root g ≡ None → plan_fault root g view.by.old view.files.items ≡ None
+        none_refuses g whole = (λ i. or_next (whole i) (sum_fault 0 (blobs_in root g (none_added view.by.old view.files.items same i))))
+
+        allowed : (t : IsTrue tells) (keeps : Act (Unit {0})) → IsKeepAll (repo_of root) config.uuid list wish.moment (present old) keeps
+            → IsSave root wish (present old) (bind (λ _. keeps) (λ _. bind (says_all lines) (λ _. gives None)) (present old))
+        unfolding saves_contents
+        allowed t keeps is =
+            let configured = (reads.told t).answer in
+            kept view.parent.0 view.by view.files.items keeps (looked t) changed same (none_refuses (present old) configured.whole)
+            (record {
+              uuid = config.uuid;
+              own = record { text = configured.text; config = plain_config config; stands = configured.stands; read = configured.configured; own = refl };
+              keep = is;
+            })
+
+        -- they aren't kept
+        pub only_not_kept : {l : List Line} {new : Drive} {e : Trouble} → Keeping tells root config.uuid list wish.moment l l mid new (Err e) → Saves l l old new (Err e)
+        only_not_kept keeping = as_fails (λ _. bind (says_all lines) (λ _. gives None)) allowed (as_after reads.later (λ t. (reads.told t).same) keeping)
+
+        -- they are kept
+        pub only_kept : {l m : List Line} {new : Drive} → Keeping tells root config.uuid list wish.moment l l mid new (Ok tt) → m ≡ l ++ lines → Saves l m old new (Ok None)
+        only_kept keeping said = as_seq (λ _. bind (says_all lines) (λ _. gives None)) allowed (as_after reads.later (λ t. (reads.told t).same) keeping) (seq _ (said_each lines said) done)

@@ -2,6 +2,7 @@ pub mod All
 pub mod Blobs
 pub mod Collisions
 pub mod Configured
+pub mod Contents
 pub mod Creating
 pub mod First
 pub mod Laws

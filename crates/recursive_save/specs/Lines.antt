@@ -2,7 +2,8 @@
 use Rattle.std.specs.Prelude.{◌≡◌, ℕ, List, [], ◌∷◌, map, codes}
 use Rattle.faults.specs.declared.lines.Line.{Line}
 use Rattle.snapshot.specs.declared.entries.Entry.{Entry}
-use Rattle.tree_status.specs.All.{WorkFile, changes}
+use Rattle.tree_status.specs.All.{changes}
+use Rattle.tree_status.specs.declared.found.WorkingFile.{WorkingFile}
 use Rattle.tree_status.specs.declared.states.Change.{Change}
 use Rattle.tree_status.specs.declared.states.State.{State}
 use Rattle.tree_status.specs.declared.states.State.TheVariants.{Untracked, Modified, Deleted}
@@ -23,7 +24,7 @@ change_line change = record {
 }
 
 -- The lines of the changes, in byte order of the paths.
-abbrev pub change_lines : List Entry → List WorkFile → List Line
+abbrev pub change_lines : List Entry → List WorkingFile → List Line
 change_lines old files = map change_line (changes old files)
 
 -- The line of one change.

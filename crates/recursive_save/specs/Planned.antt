@@ -12,11 +12,11 @@ use Rattle.config_text.specs.All.{PlainConfig}
 use Rattle.repository.specs.All.{settings_place}
 use Rattle.object_store.specs.declared.objects.NewObject.{NewObject}
 use Rattle.snapshot.specs.All.{IsBuilt, IsLeastClash}
-use Rattle.tree_status.specs.All.{as_files, WorkFile, new_entries, IsView}
+use Rattle.dataset.specs.All.{HasUuid}
+use Rattle.tree_status.specs.All.{new_entries, IsView}
 use Rattle.recursive_save.specs.Configured.{MayConfigure}
-use Rattle.recursive_save.specs.Lines.{change_lines}
 use Rattle.recursive_save.specs.Saving.{SavePlan, IsSavePlan, blobs_limit, plan_fault, save_commit}
-use Rattle.recursive_save.specs.Saving.{dataset_line}
+use Rattle.recursive_save.specs.Saving.{save_lines}
 use Rattle.recursive_save.specs.declared.planning.Planned.{Planned}
 use Rattle.tree_status.specs.declared.viewing.View.{View}
 use Rattle.recursive_save.specs.declared.wishes.SaveWish.{SaveWish}
@@ -29,15 +29,20 @@ plan_of planned = record {
   lines = planned.lines.items;
 }
 
--- Where this is what was looked at: nothing refuses the plan, and it is the save's.
+-- Where this is what was looked at: nothing refuses the plan, it is the save's, and the
+-- repository's UUID comes with it.
 abbrev pub IsPlannedOf : Names → SaveWish → View → Ground → Planned → Type 0
 IsPlannedOf root wish view g planned =
-    IsView root g view → (plan_fault root g view.old ≡ None)
-    × IsSavePlan root wish g view.parent.0 view.old (plan_of planned)
+    IsView root wish.to_git g view
+    → (plan_fault root g view.by.old view.files.items ≡ None)
+    × IsSavePlan root wish g view.parent.0 view.by.old view.files.items (plan_of planned)
+    × HasUuid root planned.uuid g
 
 -- Where this is what was looked at: the refusal is the plan's.
-abbrev pub IsPlanRefusal : Names → View → Ground → Fault → Type 0
-IsPlanRefusal root view g fault = IsView root g view → plan_fault root g view.old ≡ Some fault
+abbrev pub IsPlanRefusal : Names → SaveWish → View → Ground → Fault → Type 0
+IsPlanRefusal root wish view g fault =
+    IsView root wish.to_git g view
+    → plan_fault root g view.by.old view.files.items ≡ Some fault
 
 -- What is past a limit where a save is planned: the text of the configuration, or the bytes of the
 -- new blobs.
@@ -63,24 +68,20 @@ pub record IsCommitOn (body tree parent : List ℕ) : Type 0 where
 
 -- A plan of blobs that were read: they, the trees of the new snapshot, and the commit.
 pub record IsPlanWith (config : PlainConfig) (view : View) (wish : SaveWish)
-    (blobs : List NewObject) (work : List WorkFile) (plan : SavePlan) : Type 0 where
+    (blobs : List NewObject) (plan : SavePlan) : Type 0 where
   pub tree : List ℕ
   pub trees : List NewObject
-  pub built : IsBuilt (new_entries view.old work) tree trees
+  pub built : IsBuilt (new_entries view.by.old view.files.items) tree trees
   pub objects : plan.objects ≡ blobs ++ trees
       ++ record { kind = Commit; body = save_commit config wish tree view.parent.0 } ∷ []
   pub commit : plan.commit ≡ oid Commit (save_commit config wish tree view.parent.0)
   pub body : IsCommitOn (save_commit config wish tree view.parent.0) tree view.parent.0
-  pub lines : plan.lines ≡ change_lines view.old work ++ dataset_line (codes "ok") ∷ []
-
--- The files that were looked at are these.
-abbrev pub HasWork : View → List WorkFile → Type 0
-HasWork view work = view.files.items ≡ as_files work
+  pub lines : plan.lines ≡ save_lines view.by.old view.files.items (codes "ok")
 
 -- No plan is made of blobs that were read: for want of memory, or one of the files lies above
 -- another.
 abbrev pub PlanFails : View → Trouble → Type 0
 PlanFails view NoMemory = Unit {0}
 PlanFails view (Refused (PathClash path)) =
-    (work : List WorkFile) → HasWork view work → IsLeastClash (new_entries view.old work) path
+    IsLeastClash (new_entries view.by.old view.files.items) path
 PlanFails view e = ⊥

@@ -5,7 +5,7 @@ use Rattle.places.specs.All.{Names, Ground}
 use Rattle.faults.specs.declared.lines.Line.{Line}
 use Rattle.faults.specs.declared.faults.Fault.{Fault}
 use Rattle.faults.specs.declared.faults.Fault.TheVariants.{TooLarge, UnsupportedMode, OddKind}
-use Rattle.faults.specs.declared.faults.Fault.TheVariants.{Collision, Blocked}
+use Rattle.faults.specs.declared.faults.Fault.TheVariants.{Collision, Blocked, TimeFull}
 use Rattle.faults.specs.declared.faults.Trouble.{Trouble}
 use Rattle.file_store.specs.All.{Disk, Drive, Since, IsImage, WasOpen, present}
 use Rattle.git_objects.specs.declared.ids.Id.{Id}
@@ -17,7 +17,6 @@ use Rattle.dataset.specs.All.{Sound, IsDataset}
 use Rattle.recursive_save.specs.Lines.{AreChangeLines}
 use Rattle.recursive_save.specs.Remains.{HeldStay, SameOutside}
 use Rattle.recursive_save.specs.Saving.{IsSave, dataset_line}
-use Rattle.tree_status.specs.declared.states.Change.{Change}
 use Rattle.recursive_save.specs.declared.wishes.SaveWish.{SaveWish}
 
 -- Of one ground a save has one act.
@@ -26,19 +25,21 @@ SaveIsOne =
     (root : Names) (wish : SaveWish) (g : Ground) (one two : Act (Option Id))
     → IsSave root wish g one → IsSave root wish g two → one ≡ two
 
--- The lines of a save that makes a commit: those of changed files, and then that of the dataset.
-abbrev pub AreSaveLines : List Line → Type 0
-AreSaveLines lines =
+-- The lines of a save: those of changed files, and then that of the dataset with this status.
+abbrev pub AreSaveLines : List ℕ → List Line → Type 0
+AreSaveLines status lines =
     (changes : List Line) × AreChangeLines changes
-    × (lines ≡ changes ++ dataset_line (codes "ok") ∷ [])
+    × (lines ≡ changes ++ dataset_line status ∷ [])
 
 -- The lines that a save says, whatever the files tell: those of changed files, and then that of the
--- dataset; that the dataset needs no save; none where it is refused or fails.
+-- dataset, `notneeded` where there is no commit; none where it is refused or fails.
 abbrev pub SaveSays : List Line → List Line → Result (Option Id) Trouble → Type 0
 SaveSays before after (Ok (Some id)) =
     (changes : List Line) × AreChangeLines changes
     × (after ≡ before ++ changes ++ dataset_line (codes "ok") ∷ [])
-SaveSays before after (Ok None) = after ≡ before ++ dataset_line (codes "notneeded") ∷ []
+SaveSays before after (Ok None) =
+    (changes : List Line) × AreChangeLines changes
+    × (after ≡ before ++ changes ++ dataset_line (codes "notneeded") ∷ [])
 SaveSays before after (Err trouble) = after ≡ before
 
 -- Of the ground g at the start, and of the one to which the act comes, x: nothing outside the
@@ -68,13 +69,14 @@ SaveKeeps =
     → IsSave root wish (present old) act → Moments act old new
     → Since (λ d. SaveRemainsAt root act old d) old.history new.history
 
--- The faults for which a save of a sound dataset may be refused: a limit is passed; a nested
--- dataset is in the commit, or among the working files; two objects have one id; a file is in the
--- way.
+-- The faults for which a save of a sound dataset may be refused: a limit is passed, also that of
+-- the times in a log; a nested dataset is in the commit, or among the working files; two objects
+-- have one id; a file is in the way.
 abbrev pub IsSoundRefusal : Fault → Type 0
 IsSoundRefusal (TooLarge path size) = Unit {0}
 IsSoundRefusal (UnsupportedMode path) = Unit {0}
 IsSoundRefusal (OddKind path) = Unit {0}
+IsSoundRefusal (TimeFull key) = Unit {0}
 IsSoundRefusal (Collision id) = Unit {0}
 IsSoundRefusal (Blocked at) = Unit {0}
 IsSoundRefusal fault = ⊥

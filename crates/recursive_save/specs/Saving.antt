@@ -1,29 +1,35 @@
--- What a save of a dataset does, whose files are all kept in git.
+-- What a save of a dataset does.
 use Rattle.std.specs.Prelude.{◌≡◌, ◌⊎◌, ◌<◌, ℕ, ◌+◌, Bool, true, false, IsTrue, ◌&&◌, not, nat_lt}
-use Rattle.std.specs.Prelude.{if◌then◌else◌, List, [], ◌∷◌, ◌++◌, length, Option, Some, None}
+use Rattle.std.specs.Prelude.{if◌then◌else◌, List, [], ◌∷◌, ◌++◌, length, map, Option, Some, None}
 use Rattle.std.specs.Prelude.{Result, Ok, Err, bytes_eq, codes}
+use Rattle.std.specs.List.{flat_map}
 use Rattle.places.specs.All.{Names, text_of, Ground, file_at}
 use Rattle.faults.specs.declared.lines.Line.{Line}
 use Rattle.faults.specs.declared.faults.Fault.{Fault}
 use Rattle.faults.specs.declared.faults.Fault.TheVariants.{BadLine, TooLarge, Collision, Damaged}
 use Rattle.faults.specs.declared.faults.Fault.TheVariants.{UnsupportedMode, OddKind, Dirty, Missing}
 use Rattle.faults.specs.declared.faults.Fault.TheVariants.{BadTree, BadCommit, Blocked, PathClash}
+use Rattle.faults.specs.declared.faults.Fault.TheVariants.{BadLog, TimeFull}
 use Rattle.file_store.specs.All.{or_next}
 use Rattle.git_objects.specs.All.{oid, commit_text, person_of, Fields, IsCommitText}
 use Rattle.git_objects.specs.declared.ids.Id.{Id}
-use Rattle.git_objects.specs.declared.objects.ObjKind.TheVariants.{Commit}
+use Rattle.git_objects.specs.declared.objects.ObjKind.TheVariants.{Blob, Commit}
+use Rattle.annex_keys.specs.All.{PlainKey, key_text}
+use Rattle.annex_store.specs.All.{IsKeepAll, MayReadLog, log_place}
+use Rattle.annex_store.specs.declared.members.NewContent.{NewContent}
+use Rattle.kept_files.specs.All.{new_blob}
 use Rattle.config_text.specs.All.{PlainConfig, config_in}
 use Rattle.repository.specs.All.{repo_of, settings_place, object_place}
 use Rattle.acts.specs.All.{Act, Step, still, Refuses, gives, says, unless, bind, each}
 use Rattle.object_store.specs.All.{IsTooLong, object_text, puts_objects}
 use Rattle.object_store.specs.declared.objects.NewObject.{NewObject}
-use Rattle.ref_store.specs.All.{tip_fault, IsTipAt, IsTipPlace, sets_tip}
-use Rattle.snapshot.specs.All.{IsFlat, IsFlattenFault, IsBuilt}
+use Rattle.ref_store.specs.All.{IsTipPlace, sets_tip}
+use Rattle.snapshot.specs.All.{IsBuilt}
 use Rattle.snapshot.specs.declared.entries.Entry.{Entry}
-use Rattle.snapshot.specs.declared.entries.Leaf.{Leaf}
-use Rattle.snapshot.specs.declared.entries.Leaf.TheVariants.{Git, Link, Pin}
-use Rattle.tree_status.specs.All.{walk_fault, working, WorkFile, new_entries, added, is_changed}
-use Rattle.tree_status.specs.All.{HasPlace, IsOverToView, IsRead, IsUnread, new_blobs}
+use Rattle.tree_status.specs.All.{HasPlace, IsOverToView, IsRead, IsUnread, KeepBy, WorkFile}
+use Rattle.tree_status.specs.All.{added, is_changed, is_other, new_entries, work_of}
+use Rattle.tree_status.specs.declared.found.WorkingFile.{WorkingFile}
+use Rattle.recursive_save.specs.Contents.{IsKeepingOf}
 use Rattle.recursive_save.specs.Lines.{change_lines}
 use Rattle.recursive_save.specs.declared.wishes.SaveWish.{SaveWish}
 
@@ -51,7 +57,7 @@ settings_fault root g = settings_in (settings_place root) (file_at g (settings_p
 abbrev pub blobs_limit : ℕ
 blobs_limit = 536870912
 
--- The refusal of the first of some files with which their bytes, and so many before them, are too
+-- The refusal of the first of some blobs with which their bytes, and so many before them, are too
 -- many, by its path and that sum.
 abbrev pub sum_fault : ℕ → List WorkFile → Option Fault
 sum_fault before [] = None
@@ -60,9 +66,25 @@ sum_fault before (file ∷ files) =
     then Some (TooLarge file.0 (before + length file.1))
     else sum_fault (before + length file.1) files
 
--- Why no commit is planned of a snapshot: the configuration, or too many bytes of new blobs.
-abbrev pub plan_fault : Names → Ground → List Entry → Option Fault
-plan_fault root g old = or_next (settings_fault root g) (sum_fault 0 (added old (working root g)))
+-- A blob with its path, or none.
+abbrev pub blob_by : List ℕ → Option (List ℕ) → List WorkFile
+blob_by path None = []
+blob_by path (Some body) = (path, body) ∷ []
+
+-- The blobs that git gets of working files, each with its path: the bytes that the file has, or the
+-- text of its pointer; none where the old leaf stays.
+abbrev pub blobs_in : Names → Ground → List WorkingFile → List WorkFile
+blobs_in root g files =
+    flat_map (λ file. blob_by file.path (new_blob file.kept (work_of root g file.path).1)) files
+
+-- The blobs of the files that are new, or have another blob than they had.
+abbrev pub new_blobs : Names → Ground → List Entry → List WorkingFile → List WorkFile
+new_blobs root g old files = blobs_in root g (added old files)
+
+-- Why nothing is saved: the configuration, or too many bytes of new blobs.
+abbrev pub plan_fault : Names → Ground → List Entry → List WorkingFile → Option Fault
+plan_fault root g old files =
+    or_next (settings_fault root g) (sum_fault 0 (new_blobs root g old files))
 
 -- One of some objects has the id of another object, and another text.
 abbrev pub clash_with : List NewObject → NewObject → Option Fault
@@ -91,6 +113,14 @@ abbrev pub dataset_line : List ℕ → Line
 dataset_line status =
     record { action = codes "save"; status = status; path = codes "."; kind = codes "dataset" }
 
+-- The lines of a save: those of the changes, and that of the dataset.
+abbrev pub save_lines : List Entry → List WorkingFile → List ℕ → List Line
+save_lines old files status = change_lines old files ++ dataset_line status ∷ []
+
+-- The object of a blob, which is given with its path.
+abbrev pub blob_of : WorkFile → NewObject
+blob_of blob = record { kind = Blob; body = blob.1 }
+
 -- The commit of a tree on a parent, by the configured person at the moment of the wish.
 abbrev pub save_commit : PlainConfig → SaveWish → List ℕ → List ℕ → List ℕ
 save_commit config wish tree parent =
@@ -101,23 +131,22 @@ save_commit config wish tree parent =
 
 -- A plan of the new snapshot: the blobs that are new, the trees, and the commit, whose body is one.
 pub record IsSavePlan (root : Names) (wish : SaveWish) (g : Ground) (parent : List ℕ)
-    (old : List Entry) (plan : SavePlan) : Type 0 where
+    (old : List Entry) (files : List WorkingFile) (plan : SavePlan) : Type 0 where
   pub settings : List ℕ
   pub config : PlainConfig
   pub tree : List ℕ
   pub trees : List NewObject
   pub stands : file_at g (settings_place root) ≡ Some settings
   pub configured : config_in settings ≡ Ok config
-  pub built : IsBuilt (new_entries old (working root g)) tree trees
-  pub objects : plan.objects ≡ new_blobs old (working root g) ++ trees
+  pub built : IsBuilt (new_entries old files) tree trees
+  pub objects : plan.objects ≡ map blob_of (new_blobs root g old files) ++ trees
       ++ record { kind = Commit; body = save_commit config wish tree parent } ∷ []
   pub commit : plan.commit ≡ oid Commit (save_commit config wish tree parent)
   pub fields : Fields
   pub text : IsCommitText (save_commit config wish tree parent) fields
   pub tree_is : fields.tree.0 ≡ tree
   pub parent_is : fields.parents ≡ record { 0 = parent } ∷ []
-  pub lines : plan.lines
-      ≡ change_lines old (working root g) ++ dataset_line (codes "ok") ∷ []
+  pub lines : plan.lines ≡ save_lines old files (codes "ok")
 
 -- Some lines, one after the other.
 abbrev pub says_all : List Line → Step (Unit {0})
@@ -131,35 +160,72 @@ writes root plan =
     bind (says_all plan.lines) (λ _.
     gives (Some (record { 0 = plan.commit })))))
 
--- A planned save: it is written, unless two of its objects collide.
-unfoldable pub saves : Names → SavePlan → Step (Option Id)
-saves root plan =
-    bind (unless (λ g. clash_fault [] plan.objects)) (λ _. writes root plan)
+-- An act that keeps these contents at a moment, and then writes a plan.
+pub record IsWritten (root : Names) (uuid : List ℕ) (list : List NewContent) (moment : ℕ)
+    (plan : SavePlan) (g : Ground) (act : Act (Option Id)) : Type 0 where
+  pub keeps : Act (Unit {0})
+  pub keep : IsKeepAll (repo_of root) uuid list moment g keeps
+  pub is : act ≡ bind (λ _. keeps) (λ _. writes root plan) g
+
+-- A planned save: unless two of its objects collide, the contents are kept, and then the plan is
+-- written.
+unfoldable pub saves : Names → SavePlan → Act (Unit {0}) → Step (Option Id)
+saves root plan keeps =
+    bind (unless (λ g. clash_fault [] plan.objects)) (λ _.
+    bind (λ _. keeps) (λ _. writes root plan))
+
+-- A save of what hasn't changed but for contents that were lacked: they are kept, and it says its
+-- lines; there is no commit.
+unfoldable pub saves_contents : List Line → Act (Unit {0}) → Step (Option Id)
+saves_contents lines keeps =
+    bind (λ _. keeps) (λ _. bind (says_all lines) (λ _. gives None))
 
 -- A save of what hasn't changed: its line, and no commit.
 unfoldable pub saves_nothing : Step (Option Id)
 saves_nothing = bind (says (dataset_line (codes "notneeded"))) (λ _. gives None)
 
--- THE SAVE of a dataset: refused for what it reads; nothing to save; refused for what it plans; or
--- a commit of the working files.
+-- THE SAVE of a dataset: refused for what it reads; nothing to save; refused for what it plans;
+-- refused since two of its objects collide, whatever the logs say; only contents to keep; or
+-- contents and a commit of the working files.
 pub data IsSave (root : Names) (wish : SaveWish) (g : Ground) : Act (Option Id) → Type 0 where
-  unread : (fault : Fault) → IsUnread root g fault → IsSave root wish g (still (Refuses fault))
-  clean : (parent : List ℕ) (old : List Entry) → IsRead root g parent old
-      → is_changed old (working root g) ≡ false → IsSave root wish g (saves_nothing g)
-  unplanned : (parent : List ℕ) (old : List Entry) (fault : Fault) → IsRead root g parent old
-      → is_changed old (working root g) ≡ true → plan_fault root g old ≡ Some fault
+  unread : (fault : Fault) → IsUnread root wish.to_git g fault
       → IsSave root wish g (still (Refuses fault))
-  saved : (parent : List ℕ) (old : List Entry) (plan : SavePlan) → IsRead root g parent old
-      → is_changed old (working root g) ≡ true → plan_fault root g old ≡ None
-      → IsSavePlan root wish g parent old plan → IsSave root wish g (saves root plan g)
+  clean : (parent : List ℕ) (by : KeepBy) (files : List WorkingFile)
+      → IsRead root wish.to_git g parent by files → is_changed by.old files ≡ false
+      → IsSave root wish g (saves_nothing g)
+  unplanned : (parent : List ℕ) (by : KeepBy) (files : List WorkingFile) (fault : Fault)
+      → IsRead root wish.to_git g parent by files → is_changed by.old files ≡ true
+      → plan_fault root g by.old files ≡ Some fault
+      → IsSave root wish g (still (Refuses fault))
+  clashing : (parent : List ℕ) (by : KeepBy) (files : List WorkingFile) (plan : SavePlan)
+      (fault : Fault)
+      → IsRead root wish.to_git g parent by files → is_other by.old files ≡ true
+      → plan_fault root g by.old files ≡ None → IsSavePlan root wish g parent by.old files plan
+      → clash_fault [] plan.objects ≡ Some fault
+      → IsSave root wish g (still (Refuses fault))
+  kept : (parent : List ℕ) (by : KeepBy) (files : List WorkingFile) (keeps : Act (Unit {0}))
+      → IsRead root wish.to_git g parent by files → is_changed by.old files ≡ true
+      → is_other by.old files ≡ false → plan_fault root g by.old files ≡ None
+      → IsKeepingOf root wish.moment g by files keeps
+      → IsSave root wish g
+      (saves_contents (save_lines by.old files (codes "notneeded")) keeps g)
+  saved : (parent : List ℕ) (by : KeepBy) (files : List WorkingFile) (plan : SavePlan)
+      (keeps : Act (Unit {0}))
+      → IsRead root wish.to_git g parent by files → is_other by.old files ≡ true
+      → plan_fault root g by.old files ≡ None → IsSavePlan root wish g parent by.old files plan
+      → IsKeepingOf root wish.moment g by files keeps
+      → IsSave root wish g (saves root plan keeps g)
 
 -- What is past a limit where a dataset is saved: where it is looked at; the text of the
--- configuration; the bytes of the new blobs; the place of the repository.
+-- configuration; the bytes of the new blobs; the place or the text of a log; the place of the
+-- repository.
 abbrev pub IsOverToSave : Names → List ℕ → ℕ → Type 0
 IsOverToSave root path size =
     IsOverToView root path size
     ⊎ ((path ≡ text_of (settings_place root))
-    ⊎ ((blobs_limit < size) ⊎ IsTooLong (repo_of root) path size))
+    ⊎ ((blobs_limit < size)
+    ⊎ (((key : PlainKey) × MayReadLog (repo_of root) key (TooLarge path size))
+    ⊎ IsTooLong (repo_of root) path size)))
 
 -- The faults that a save may hand on, whatever the files tell.
 abbrev pub MaySave : Bool → Names → Fault → Type 0
@@ -175,6 +241,9 @@ MaySave tells root (OddKind path) = HasPlace root path
 MaySave tells root (Dirty path) = IsTrue tells → ⊥
 MaySave tells root (PathClash path) = IsTrue tells → ⊥
 MaySave tells root (BadLine place line) = place ≡ settings_place root
+MaySave tells root (BadLog place line) =
+    (key : PlainKey) × (place ≡ log_place (repo_of root) key)
+MaySave tells root (TimeFull text) = (key : PlainKey) × (text ≡ key_text key)
 MaySave tells root (Collision id) = Unit {0}
 MaySave tells root (Blocked at) = IsTrue tells
 MaySave tells root fault = ⊥

@@ -1,17 +1,19 @@
-// The blobs of the files that a save adds. They are read again, so that what is put is what was found.
-ghost use Rattle.std.specs.Prelude.{◌≡◌, ◌≤◌, ◌+◌, ◌++◌, ◌==◌, ◌&&◌, false, length, bytes_eq, IfOk, MatchOption};
+// The blobs that git gets of the files that a save adds: the bytes of those that git keeps, which are read again, so that
+// what is put is what was found; and the texts of pointers.
+ghost use Rattle.std.specs.Prelude.{◌≡◌, ◌≤◌, ◌+◌, ◌++◌, ◌==◌, ◌&&◌, false, length, bytes_eq, IfOk, IfSome, MatchOption};
 ghost use Rattle.places.specs.All.{is_text, joined, names_of};
 ghost use Rattle.faults.specs.declared.faults.Fault.TheVariants.{TooLarge, Dirty};
 ghost use Rattle.git_objects.specs.All.{oid};
 ghost use Rattle.git_objects.specs.declared.objects.ObjKind.TheVariants.{Blob};
 ghost use Rattle.recursive_save.specs.Saving.{blobs_limit};
 ghost use Rattle.tree_status.specs.All.{shown};
-ghost use Rattle.recursive_save.specs.Blobs.{BlobReads, BlobsRead};
+ghost use Rattle.recursive_save.specs.Blobs.{BlobReads, BlobsRead, NewBlobReads, PointerBlobs};
 
 use crate::first::{new_object, text};
 use faults::{Fault, Trouble};
 use file_store::{Files, Place, PlaceErr};
 use git_objects::{ObjKind, blob_id};
+use kept_files::Kept;
 use object_store::NewObject;
 use std::alloc::{AllocError, Global};
 use tree_status::WorkingFile;
@@ -19,8 +21,8 @@ use tree_status::WorkingFile;
 /// How many bytes the new blobs of a save may have.
 const BLOBS_LIMIT: u64 = 536_870_912;
 
-// The refusal of a file that isn't as it was found.
-fn dirty(alloc: Global, file: &WorkingFile) -> Result<Fault, AllocError>
+/// The refusal of a file that isn't as it was found.
+pub(crate) fn dirty(alloc: Global, file: &WorkingFile) -> Result<Fault, AllocError>
     ensures { IfOk result (λ fault. fault ≡ Dirty file.now.path) }
 {
     let path = text(alloc, file.path.as_str())?;
@@ -35,8 +37,8 @@ fn too_many(alloc: Global, file: &WorkingFile, size: u64) -> Result<Fault, Alloc
     Ok(Fault::TooLarge { path, size })
 }
 
-// Where a file stands, if its path has a place.
-fn place_of(alloc: Global, root: &Place, path: &str) -> Result<Option<Place>, AllocError>
+/// Where a file stands, if its path has a place.
+pub(crate) fn place_of(alloc: Global, root: &Place, path: &str) -> Result<Option<Place>, AllocError>
     ensures { IfOk result (λ found. MatchOption found (is_text (joined root.now path.now) ≡ false)
         (λ place. place ≡ root.now ++ names_of path.now)) }
 {
@@ -88,9 +90,51 @@ fn read_blob<F: Files>(
     Ok(bytes)
 }
 
-/// The blobs of these files, in order.
+// The text of a file's pointer, after so many bytes of others.
+fn pointer_blob(
+    alloc: Global,
+    file: &WorkingFile,
+    pointer: &str,
+    before: u64,
+) -> Result<Vec<u8>, Trouble>
+    requires { before ≤ blobs_limit }
+    ensures blob { PointerBlobs file.now pointer.now before result }
+    ensures few { IfOk result (λ bytes. before + length bytes.items ≤ blobs_limit) }
+{
+    let bytes = Vec::from_slice(alloc, pointer.as_bytes())?;
+    let sum = before.saturating_add(bytes.len() as u64);
+    if sum > BLOBS_LIMIT {
+        return Err(Trouble::Refused(too_many(alloc, file, sum)?));
+    }
+    Ok(bytes)
+}
+
+// The blob that git gets of a file, if any, after so many bytes of others.
+fn new_blob<F: Files>(
+    alloc: Global,
+    files: &mut F,
+    root: &Place,
+    file: &WorkingFile,
+    before: u64,
+) -> Result<Option<Vec<u8>>, Trouble>
+    requires { before ≤ blobs_limit }
+    ensures reads { NewBlobReads F.tells root.now file.now before (F.drive files.old) (F.drive files.new) result }
+    ensures few { IfOk result (λ found. IfSome found (λ bytes. before + length bytes.items ≤ blobs_limit)) }
+{
+    match &file.kept {
+        Kept::Same { .. } => Ok(None),
+        Kept::InGit => Ok(Some(read_blob(alloc, files, root, file, before)?)),
+        Kept::Pointer { text } | Kept::Content { text, .. } => {
+            let bytes = pointer_blob(alloc, file, text.as_str(), before)?;
+            Ok(Some(bytes))
+        }
+    }
+}
+
+/// The blobs that git gets of these files, in order.
 ///
-/// Refuses TooLarge of the first file with which there are too many bytes, and Dirty of one that isn't as it was found.
+/// Refuses TooLarge of the first file with which there are too many bytes, and Dirty of one that git keeps and that isn't
+/// as it was found.
 pub(crate) fn read_blobs<F: Files>(
     alloc: Global,
     files: &mut F,
@@ -102,9 +146,10 @@ pub(crate) fn read_blobs<F: Files>(
     let mut objects = Vec::new(alloc);
     let mut sum = 0;
     for file in list {
-        let bytes = read_blob(alloc, files, root, file, sum)?;
-        sum += bytes.len() as u64;
-        objects.push(new_object(ObjKind::Blob, bytes))?;
+        if let Some(bytes) = new_blob(alloc, files, root, file, sum)? {
+            sum += bytes.len() as u64;
+            objects.push(new_object(ObjKind::Blob, bytes))?;
+        }
     }
     Ok(objects)
 }

@@ -4,6 +4,7 @@
 mod blobs;
 mod collisions;
 mod configuring;
+mod contents;
 mod creating;
 mod first;
 mod laws;

@@ -4,13 +4,12 @@ ghost use Rattle.file_store.specs.All.{present};
 ghost use Rattle.git_objects.specs.All.{person_text, person_of};
 ghost use Rattle.config_text.specs.All.{plain_config};
 ghost use Rattle.acts.specs.All.{Reads};
-ghost use Rattle.tree_status.specs.All.{ArePaths, WorkFile, IsView};
-ghost use Rattle.recursive_save.specs.Lines.{change_lines};
+ghost use Rattle.tree_status.specs.All.{ArePaths, IsView, paths_of};
 ghost use Rattle.recursive_save.specs.Configured.{HasPerson};
 ghost use Rattle.recursive_save.specs.Saved.{AreSaveLines};
-ghost use Rattle.recursive_save.specs.Saving.{dataset_line, save_commit};
+ghost use Rattle.recursive_save.specs.Saving.{dataset_line, save_commit, save_lines};
 ghost use Rattle.recursive_save.specs.Planned.{IsPlannedOf, IsPlanRefusal, MayPlan, IsPlanWith};
-ghost use Rattle.recursive_save.specs.Planned.{HasWork, PlanFails, plan_of, IsCommitOn};
+ghost use Rattle.recursive_save.specs.Planned.{PlanFails, plan_of, IsCommitOn};
 
 use crate::blobs::read_blobs;
 use crate::configuring::read_settings;
@@ -25,13 +24,15 @@ use object_store::NewObject;
 use snapshot::build;
 use std::alloc::{AllocError, Global};
 use tree_status::{View, added_files, changes_of, new_snapshot};
+use uuid::Uuid;
 
-/// The objects of a save, its commit's id, and its lines.
+/// The objects of a save, its commit's id, its lines, and the UUID of the repository.
 #[derive(Drop)]
 pub(crate) struct Planned {
     pub(crate) objects: Vec<NewObject>,
     pub(crate) commit: Id,
     pub(crate) lines: Vec<Line>,
+    pub(crate) uuid: Uuid,
 }
 
 // The configured person at a moment.
@@ -78,27 +79,26 @@ fn commit_body(
     }
 }
 
-// The last line of a save, of the dataset itself.
-fn saved_line(alloc: Global) -> Result<Line, AllocError>
-    ensures { IfOk result (λ line. line ≡ dataset_line (codes "ok")) }
+/// The last line of a save, of the dataset itself.
+pub(crate) fn dataset_line(alloc: Global, status: &str) -> Result<Line, AllocError>
+    ensures { IfOk result (λ line. line ≡ dataset_line status.now) }
 {
     Ok(Line {
         action: text(alloc, "save")?,
-        status: text(alloc, "ok")?,
+        status: text(alloc, status)?,
         path: text(alloc, ".")?,
         kind: text(alloc, "dataset")?,
     })
 }
 
-// The lines of the changes, and that of the dataset.
-fn all_lines(alloc: Global, view: &View) -> Result<Vec<Line>, AllocError>
-    ensures lines { (work : List WorkFile) → HasWork view.now work → IfOk result (λ lines. lines.items
-        ≡ change_lines view.now.old work ++ dataset_line (codes "ok") ∷ []) }
-    ensures said { IfOk result (λ lines. AreSaveLines lines.items) }
+/// The lines of the changes, and that of the dataset with this status.
+pub(crate) fn save_lines(alloc: Global, view: &View, status: &str) -> Result<Vec<Line>, AllocError>
+    ensures lines { IfOk result (λ lines. lines.items ≡ save_lines view.now.by.old view.now.files.items status.now) }
+    ensures said { IfOk result (λ lines. AreSaveLines status.now lines.items) }
 {
-    let changes = changes_of(alloc, &view.old, view.files.as_slice())?;
+    let changes = changes_of(alloc, view.by.old(), view.files.as_slice())?;
     let mut lines = lines_of(alloc, changes.as_slice())?;
-    lines.push(saved_line(alloc)?)?;
+    lines.push(dataset_line(alloc, status)?)?;
     Ok(lines)
 }
 
@@ -111,15 +111,16 @@ fn complete(
     blobs: Vec<NewObject>,
 ) -> Result<Planned, Trouble>
     requires person { HasPerson config.now }
-    requires ordered { ArePaths view.now.files.items }
-    ensures plan { (work : List WorkFile) → HasWork view.now work → IfOk result
-        (λ planned. IsPlanWith (plain_config config.now) view.now wish.now blobs.items work (plan_of planned)) }
-    ensures said { IfOk result (λ planned. AreSaveLines planned.lines.items) }
+    requires ordered { ArePaths (paths_of view.now.files.items) }
+    ensures plan { IfOk result (λ planned. IsPlanWith (plain_config config.now) view.now wish.now blobs.items
+        (plan_of planned)) }
+    ensures own { IfOk result (λ planned. planned.uuid ≡ config.now.uuid) }
+    ensures said { IfOk result (λ planned. AreSaveLines (codes "ok") planned.lines.items) }
     ensures fails { IfErr result (PlanFails view.now) }
 {
-    let new = new_snapshot(alloc, &view.old, view.files.as_slice())?;
+    let new = new_snapshot(alloc, view.by.old(), view.files.as_slice())?;
     let mut built = build(alloc, &new)?;
-    let lines = all_lines(alloc, view)?;
+    let lines = save_lines(alloc, view, "ok")?;
     let body = commit_body(alloc, config, wish, built.root, view.parent)?;
     let commit = object_id(ObjKind::Commit, body.as_slice());
     let mut objects = blobs;
@@ -129,6 +130,7 @@ fn complete(
         objects,
         commit,
         lines,
+        uuid: config.uuid,
     })
 }
 
@@ -143,15 +145,15 @@ pub(crate) fn plan<F: Files>(
     view: &View,
     wish: &SaveWish,
 ) -> Result<Planned, Trouble>
-    requires looked { IsTrue F.tells → IsView root.now (present (F.drive files.old)) view.now }
-    requires ordered { ArePaths view.now.files.items }
+    requires looked { IsTrue F.tells → IsView root.now wish.now.to_git (present (F.drive files.old)) view.now }
+    requires ordered { ArePaths (paths_of view.now.files.items) }
     ensures reads { Reads (λ fault. MayPlan F.tells root.now fault) F.tells
         (λ g planned. IsPlannedOf root.now wish.now view.now g planned)
-        (λ g fault. IsPlanRefusal root.now view.now g fault) (F.drive files.old) (F.drive files.new) result }
-    ensures said { IfOk result (λ planned. AreSaveLines planned.lines.items) }
+        (λ g fault. IsPlanRefusal root.now wish.now view.now g fault) (F.drive files.old) (F.drive files.new) result }
+    ensures said { IfOk result (λ planned. AreSaveLines (codes "ok") planned.lines.items) }
 {
     let config = read_settings(alloc, files, root)?;
-    let added = added_files(alloc, &view.old, view.files.as_slice())?;
+    let added = added_files(alloc, view.by.old(), view.files.as_slice())?;
     let blobs = read_blobs(alloc, files, root, added.as_slice())?;
     complete(alloc, &config, view, wish, blobs)
 }

@@ -1,4 +1,6 @@
 // Whole calls, each beside what it is to leave, print and answer.
+mod annexed;
+mod annexed_stops;
 mod calls;
 mod courses;
 mod create;

@@ -1,5 +1,5 @@
 -- The changes: their states are kept by their paths, and put in the order of these.
-use Rattle.std.proofs.Common.{◌≡◌, ℕ, Bool, true, false, cond, ◌||◌, ◌&&◌, List, [], ◌∷◌, ◌++◌, map, Option, Some, None, Result, Ok, Err, Vec, refl, sym, ap, subst, ◌∙◌}
+use Rattle.std.proofs.Common.{◌≡◌, ℕ, Bool, true, false, cond, ◌||◌, ◌&&◌, List, [], ◌∷◌, ◌++◌, map, Option, Some, None, Result, Ok, Err, Vec, refl, sym, ap, subst, ◌∙◌, append-nil}
 use Rattle.std.specs.Prelude.{T, bytes_eq, IfOk}
 use Rattle.std.specs.Borrow.{Bor}
 use Rattle.std.specs.BTreeMap.{BTreeMap, IsOrdered, is_at}
@@ -21,12 +21,13 @@ use Rattle.std.proofs.lemmas.Map.Text.{is_eq-slice_cmp}
 use Rattle.std.proofs.lemmas.Slice.Eq.{bytes_eq-Decides}
 use Rattle.places.proofs.Standing.{same_truth}
 use Rattle.snapshot.specs.declared.entries.Entry.{Entry}
-use Rattle.tree_status.specs.Changes.{WorkFile, added, deleted, change_at, changes, states_by_path}
-use Rattle.tree_status.specs.Changed.{AreOrdered, added_state, is_among, kept_changes, state_at}
-use Rattle.tree_status.specs.Changed.{with_states}
+use Rattle.tree_status.specs.Changed.{kept_changes, state_at, with_states}
+use Rattle.tree_status.specs.Changes.{AreOrdered, added, added_state, change_at, changes, deleted}
+use Rattle.tree_status.specs.Changes.{is_among, lacking, paths_of, states_by_path}
+use Rattle.tree_status.specs.declared.found.WorkingFile.{WorkingFile}
 use Rattle.tree_status.specs.declared.states.Change.{Change}
 use Rattle.tree_status.specs.declared.states.State.{State}
-use Rattle.tree_status.specs.declared.states.State.TheVariants.{Deleted}
+use Rattle.tree_status.specs.declared.states.State.TheVariants.{Deleted, Modified}
 
 turned : (x y : List ℕ) → bytes_eq x y ≡ bytes_eq y x
 turned x y = same_truth _ _ (λ h. (bytes_eq-Decides y x).1 (sym ((bytes_eq-Decides x y).0 h))) (λ h. (bytes_eq-Decides x y).1 (sym ((bytes_eq-Decides y x).0 h)))
@@ -86,20 +87,26 @@ find_states state_of path_of (x ∷ xs) rest at = by (bytes_eq (path_of x) at) r
         first false e ∙ so_far
         ∙ sym (ap (λ b. cond (b || is_among (map path_of xs) at) (Some (state_of at)) (find order at rest)) e)
 
--- the state at a path, of the files that are added and of the entries that are deleted
-abbrev pub state_by : List Entry → List WorkFile → List ℕ → Option State
-state_by old work at = with_states (added_state old) (map (λ file. file.0) (added old work)) at (with_states (λ path. Deleted) (map (λ entry. entry.path) (deleted old work)) at None)
+-- the state at a path, of the files that are added, of those whose contents are lacked, and of the entries that are
+-- deleted
+abbrev pub gone_by : List Entry → List WorkingFile → List ℕ → Option State
+gone_by old files at = with_states (λ path. Deleted) (map (λ entry. entry.path) (deleted old files)) at None
 
-find_all : (old : List Entry) (work : List WorkFile) (at : List ℕ) → find order at (states_by_path old work) ≡ state_by old work at
-find_all old work at =
-    let gone : List (List ℕ × State) = map (λ (entry : Entry). (entry.path, Deleted)) (deleted old work) in
-    find_states (added_state old) (λ (file : WorkFile). file.0) (added old work) gone at
-    ∙ ap (with_states (added_state old) (map (λ file. file.0) (added old work)) at)
-    (ap (find order at) (sym (append_nothing gone)) ∙ find_states (λ path. Deleted) (λ (entry : Entry). entry.path) (deleted old work) [] at)
-  where
-    append_nothing : (xs : List (List ℕ × State)) → xs ++ [] ≡ xs
-    append_nothing [] = refl
-    append_nothing (x ∷ xs) = ap (λ (l : List (List ℕ × State)). x ∷ l) (append_nothing xs)
+abbrev pub lacking_by : List Entry → List WorkingFile → List ℕ → Option State
+lacking_by old files at = with_states (λ path. Modified) (paths_of (lacking files)) at (gone_by old files at)
+
+abbrev pub state_by : List Entry → List WorkingFile → List ℕ → Option State
+state_by old files at = with_states (added_state old) (paths_of (added old files)) at (lacking_by old files at)
+
+find_all : (old : List Entry) (files : List WorkingFile) (at : List ℕ) → find order at (states_by_path old files) ≡ state_by old files at
+find_all old files at =
+    let gone : List (List ℕ × State) = map (λ (entry : Entry). (entry.path, Deleted)) (deleted old files) in
+    let lacked : List (List ℕ × State) = map (λ (file : WorkingFile). (file.path, Modified)) (lacking files) in
+    find_states (added_state old) (λ (file : WorkingFile). file.path) (added old files) (lacked ++ gone) at
+    ∙ ap (with_states (added_state old) (paths_of (added old files)) at)
+    (find_states (λ path. Modified) (λ (file : WorkingFile). file.path) (lacking files) gone at
+    ∙ ap (with_states (λ path. Modified) (paths_of (lacking files)) at)
+    (ap (find order at) (sym (append-nil gone)) ∙ find_states (λ path. Deleted) (λ (entry : Entry). entry.path) (deleted old files) [] at))
 
 -- ---- a map's states
 abbrev Kept : Type 0
@@ -132,23 +139,23 @@ unfolding keyed IsStrictlySortedBy
 sorted_keyed [] sorted = tt
 sorted_keyed (line ∷ kept) sorted = both (below_all order line.0.now (keyed kept)) (is_sorted order (keyed kept)) (below_keyed line.0 kept sorted.0) (sorted_keyed kept sorted.1)
 
-pub changes_made : (old : List Entry) (work : List WorkFile) (kept : Kept) → IsStrictlySortedBy (λ one next. order one.now next.now) (keys_of kept)
-    → ((at : List ℕ) → lookup (is_at (λ key. order at key.now)) kept ≡ state_by old work at) → kept_changes kept ≡ changes old work
+pub changes_made : (old : List Entry) (files : List WorkingFile) (kept : Kept) → IsStrictlySortedBy (λ one next. order one.now next.now) (keys_of kept)
+    → ((at : List ℕ) → lookup (is_at (λ key. order at key.now)) kept ≡ state_by old files at) → kept_changes kept ≡ changes old files
 unfolding changes
-changes_made old work kept sorted is =
+changes_made old files kept sorted is =
     let rising = sorted_keyed kept sorted in
     let mine : FinMap order State = from_sorted (keyed kept) in
-    let theirs : FinMap order State = from_entries (states_by_path old work) in
+    let theirs : FinMap order State = from_entries (states_by_path old files) in
     let same : mine ≡ theirs = same_map nat_list_cmp_total (slice_cmp-IsAntisymmetric nat_cmp-IsAntisymmetric) mine theirs (λ at.
-    get-from_sorted order (keyed kept) at rising ∙ find_keyed at kept ∙ is at ∙ sym (find_all old work at) ∙ sym (get-from_entries nat_list_cmp_total (states_by_path old work) at)) in
+    get-from_sorted order (keyed kept) at rising ∙ find_keyed at kept ∙ is at ∙ sym (find_all old files at) ∙ sym (get-from_entries nat_list_cmp_total (states_by_path old files) at)) in
     sym (changes_keyed kept)
     ∙ ap (map (λ entry. change_at entry.0 entry.1)) (sym (entries-from_sorted order (keyed kept) rising))
     ∙ ap (λ (states : FinMap order State). map (λ entry. change_at entry.0 entry.1) (entries states)) same
 
-pub changes_done : {E : Type 0} (r : Result (Vec Change Global) E) (states : BTreeMap (Bor (List ℕ)) State) (old : List Entry) (work : List WorkFile) → ((at : List ℕ) → state_at states at ≡ state_by old work at)
-    → IfOk r (λ list. list.items ≡ kept_changes states.entries) → IfOk r (λ _. IsOrdered (λ one next. slice_cmp nat_cmp one.now next.now) states) → IfOk r (λ list. list.items ≡ changes old work)
-changes_done (Ok list) states old work at is ordered = is ∙ changes_made old work states.entries ordered at
-changes_done (Err e) states old work at is ordered = tt
+pub changes_done : {E : Type 0} (r : Result (Vec Change Global) E) (states : BTreeMap (Bor (List ℕ)) State) (old : List Entry) (files : List WorkingFile) → ((at : List ℕ) → state_at states at ≡ state_by old files at)
+    → IfOk r (λ list. list.items ≡ kept_changes states.entries) → IfOk r (λ _. IsOrdered (λ one next. slice_cmp nat_cmp one.now next.now) states) → IfOk r (λ list. list.items ≡ changes old files)
+changes_done (Ok list) states old files at is ordered = is ∙ changes_made old files states.entries ordered at
+changes_done (Err e) states old files at is ordered = tt
 
 -- ---- the paths of kept changes ascend
 paths_above : (one : Bor (List ℕ)) (kept : Kept) → AllByRecursion (λ next. order one.now next.now ≡ Less) (keys_of kept)

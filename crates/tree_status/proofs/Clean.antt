@@ -7,11 +7,12 @@ use Rattle.std.specs.declared.cmp.Ordering.{Ordering}
 use Rattle.std.proofs.lemmas.Cmp.{nat_list_cmp_total, eq_by_cmp_equiv}
 use Rattle.places.proofs.Texts.{or_neither}
 use Rattle.snapshot.specs.declared.entries.Entry.{Entry}
-use Rattle.tree_status.specs.Changes.{WorkFile, added, change_at, changes, deleted}
-use Rattle.tree_status.specs.Changes.{is_changed, is_nothing, leaf_at, new_state, states_by_path}
+use Rattle.tree_status.specs.Changes.{added, added_state, change_at, changes, deleted, is_changed}
+use Rattle.tree_status.specs.Changes.{is_nothing, is_other, lacking, states_by_path}
 use Rattle.tree_status.specs.Status.{CleanIsUnchanged}
+use Rattle.tree_status.specs.declared.found.WorkingFile.{WorkingFile}
 use Rattle.tree_status.specs.declared.states.State.{State}
-use Rattle.tree_status.specs.declared.states.State.TheVariants.{Deleted}
+use Rattle.tree_status.specs.declared.states.State.TheVariants.{Deleted, Modified}
 
 abbrev order : List ℕ → List ℕ → Ordering
 order = slice_cmp nat_cmp
@@ -55,23 +56,36 @@ is_none : {A : Type 0} (list : List A) → not (is_nothing list) ≡ false → l
 is_none [] e = refl
 is_none (x ∷ list) e = absurd (cc e)
 
-module _ (old : List Entry) (files : List WorkFile) where
+module _ (old : List Entry) (files : List WorkingFile) where
+  abbrev new_states : List WorkingFile → States
+  new_states list = map (λ file. (file.path, added_state old file.path)) list
+
+  abbrev lacked_states : List WorkingFile → States
+  lacked_states list = map (λ file. (file.path, Modified)) list
+
+  abbrev gone_states : List Entry → States
+  gone_states list = map (λ entry. (entry.path, Deleted)) list
+
   unchanged : changes old files ≡ [] → is_changed old files ≡ false
   unfolding changes
   unchanged none =
       let states = none_of (states_by_path old files) (none_mapped (λ entry. change_at entry.0 entry.1) (entries (from_entries {R = order} (states_by_path old files))) none) in
-      let both = none_joined (map (λ file. (file.0, new_state (leaf_at file.0 old))) (added old files)) (map (λ entry. (entry.path, Deleted)) (deleted old files)) states in
-      let new : added old files ≡ [] = none_mapped (λ file. (file.0, new_state (leaf_at file.0 old))) (added old files) both.0 in
-      let gone : deleted old files ≡ [] = none_mapped (λ entry. (entry.path, Deleted)) (deleted old files) both.1 in
-      λ i. not (is_nothing (new i)) || not (is_nothing (gone i))
+      let parts = none_joined (new_states (added old files)) (lacked_states (lacking files) ++ gone_states (deleted old files)) states in
+      let rest = none_joined (lacked_states (lacking files)) (gone_states (deleted old files)) parts.1 in
+      let new : added old files ≡ [] = none_mapped (λ file. (file.path, added_state old file.path)) (added old files) parts.0 in
+      let lacked : lacking files ≡ [] = none_mapped (λ file. (file.path, Modified)) (lacking files) rest.0 in
+      let gone : deleted old files ≡ [] = none_mapped (λ entry. (entry.path, Deleted)) (deleted old files) rest.1 in
+      λ i. (not (is_nothing (new i)) || not (is_nothing (gone i))) || not (is_nothing (lacked i))
 
   clean : is_changed old files ≡ false → changes old files ≡ []
   unfolding changes
   clean none =
-      let both = or_neither (not (is_nothing (added old files))) (not (is_nothing (deleted old files))) none in
+      let parts = or_neither (is_other old files) (not (is_nothing (lacking files))) none in
+      let both = or_neither (not (is_nothing (added old files))) (not (is_nothing (deleted old files))) parts.0 in
       let new = is_none (added old files) both.0 in
       let gone = is_none (deleted old files) both.1 in
-      let states : states_by_path old files ≡ [] = λ i. map (λ file. (file.0, new_state (leaf_at file.0 old))) (new i) ++ map (λ entry. (entry.path, Deleted)) (gone i) in
+      let lacked = is_none (lacking files) parts.1 in
+      let states : states_by_path old files ≡ [] = λ i. new_states (new i) ++ (lacked_states (lacked i) ++ gone_states (gone i)) in
       ap (λ (s : States). map (λ entry. change_at entry.0 entry.1) (entries (from_entries {R = order} s))) states
       ∙ ap (map (λ entry. change_at entry.0 entry.1)) no_states
 

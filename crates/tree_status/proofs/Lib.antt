@@ -4,8 +4,10 @@ pub mod ChangedFiles
 pub mod ChangedStates
 pub mod Clean
 pub mod Covers
+pub mod FilesKept
 pub mod Fronts
 pub mod Items
+pub mod KeptBefore
 pub mod Mapped
 pub mod NoHead
 pub mod OneLook
@@ -20,6 +22,7 @@ pub mod Statuses
 pub mod Steps
 pub mod TaskPaths
 pub mod Tasks
+pub mod ToldFiles
 pub mod Views
 pub mod Visits
 pub mod WorkingFiles

@@ -1,5 +1,5 @@
 -- A look at a sound dataset is refused for nothing that the program itself has left there.
-use Rattle.std.proofs.Common.{◌≡◌, inl, inr, ℕ, ◌+◌, Bool, true, false, cond, List, [], ◌∷◌, length, Option, Some, None, sym, ap, ◌∙◌, subst}
+use Rattle.std.proofs.Common.{◌≡◌, ◌⊎◌, inl, inr, ℕ, ◌+◌, Bool, true, false, cond, List, [], ◌∷◌, length, Option, Some, None, sym, ap, ◌∙◌, subst}
 use Rattle.std.specs.Prelude.{nat_le, option_map}
 use Rattle.std.specs.FinMap.{entries}
 use Rattle.places.specs.All.{Names, Ground, joined, is_text}
@@ -8,15 +8,17 @@ use Rattle.faults.specs.declared.faults.Fault.TheVariants.{TooLarge}
 use Rattle.file_store.specs.All.{or_next}
 use Rattle.repository.specs.All.{Head as Led, head_of, item_limit, repo_of}
 use Rattle.ref_store.specs.All.{tip_fault}
+use Rattle.snapshot.specs.All.{pointers_fault}
 use Rattle.snapshot.specs.declared.entries.Entry.{Entry}
 use Rattle.snapshot.specs.declared.entries.Leaf.{Leaf}
 use Rattle.snapshot.specs.declared.entries.Leaf.TheVariants.{Git, Link, Pin}
 use Rattle.dataset.specs.All.{IsLimit, IsLimitAtMost, IsSoundAt, IsWhole}
-use Rattle.dataset.proofs.Readable.{flat_read, tip_read}
-use Rattle.tree_status.specs.Looks.{IsUnread, pin_fault, view_fault}
+use Rattle.dataset.proofs.Readable.{flat_read, tip_read, whole_tells_pointers}
+use Rattle.tree_status.specs.Keeping.{limit_by}
+use Rattle.tree_status.specs.Looks.{IsUnread, IsWalkRefused, pin_fault, view_fault}
 use Rattle.tree_status.specs.Status.{IsSoundNoStatus}
 use Rattle.tree_status.specs.Working.{Directory, ItemKind, Nested, Working, fault_along}
-use Rattle.tree_status.specs.Working.{git_file_limit, item_fault, items, kind_fault, walk_fault}
+use Rattle.tree_status.specs.Working.{item_fault, items, kind_fault, walk_fault}
 
 -- A FAULT, if any, is one of these
 module _ (Is : Fault → Type 0) where
@@ -61,19 +63,20 @@ pin_sound (entry ∷ list) = by entry.path entry.leaf (pin_sound list)
     by path (Link id) rest = rest
     by path (Pin id) rest = tt
 
-item_sound : (root : Names) (path : List ℕ) (kind : ItemKind) → Looks (item_fault root path kind)
-item_sound root path Directory = cond_only IsSoundNoStatus (is_text (joined root path)) None _ tt tt
-item_sound root path Nested = cond_only IsSoundNoStatus (is_text (joined root path)) (kind_fault path Nested) _ tt tt
-item_sound root path (Working bytes) = cond_only IsSoundNoStatus (is_text (joined root path)) (kind_fault path (Working bytes)) _ (cond_only IsSoundNoStatus (nat_le (length bytes) git_file_limit) None _ tt tt) tt
+module _ (limits : List ℕ → ℕ) (root : Names) where
+  item_sound : (path : List ℕ) (kind : ItemKind) → Looks (item_fault limits root path kind)
+  item_sound path Directory = cond_only IsSoundNoStatus (is_text (joined root path)) None _ tt tt
+  item_sound path Nested = cond_only IsSoundNoStatus (is_text (joined root path)) (kind_fault limits path Nested) _ tt tt
+  item_sound path (Working bytes) = cond_only IsSoundNoStatus (is_text (joined root path)) (kind_fault limits path (Working bytes)) _ (cond_only IsSoundNoStatus (nat_le (length bytes) (limits path)) None _ tt tt) tt
 
-along_sound : (root : Names) (count : ℕ) (list : List (List ℕ × ItemKind)) → Looks (fault_along root count list)
-along_sound root count [] = tt
-along_sound root count (item ∷ rest) =
-    cond_only IsSoundNoStatus (nat_le item_limit count) _ (or_next (item_fault root item.0 item.1) (fault_along root (count + 1) rest)) tt
-    (or_only IsSoundNoStatus (item_fault root item.0 item.1) (fault_along root (count + 1) rest) (item_sound root item.0 item.1) (along_sound root (count + 1) rest))
+  along_sound : (count : ℕ) (list : List (List ℕ × ItemKind)) → Looks (fault_along limits root count list)
+  along_sound count [] = tt
+  along_sound count (item ∷ rest) =
+      cond_only IsSoundNoStatus (nat_le item_limit count) _ (or_next (item_fault limits root item.0 item.1) (fault_along limits root (count + 1) rest)) tt
+      (or_only IsSoundNoStatus (item_fault limits root item.0 item.1) (fault_along limits root (count + 1) rest) (item_sound item.0 item.1) (along_sound (count + 1) rest))
 
-view_sound : (root : Names) (g : Ground) (old : List Entry) → Looks (view_fault root g old)
-view_sound root g old = or_only IsSoundNoStatus (pin_fault old) (walk_fault root g) (pin_sound old) (along_sound root 0 (entries (items root g)))
+  walk_sound : (g : Ground) → Looks (walk_fault limits root g)
+  walk_sound g = along_sound 0 (entries (items root g))
 
 -- SOUND GROUNDS
 module _ (root : Names) (g : Ground) (at : IsSoundAt root g) where
@@ -88,7 +91,14 @@ module _ (root : Names) (g : Ground) (at : IsSoundAt root g) where
   whole_at : (parent : List ℕ) → option_map (λ (h : Led). h.id) (head_of g repo) ≡ Some parent → IsWhole repo parent g
   whole_at parent e = subst (λ (i : List ℕ). IsWhole repo i g) (led (head_of g repo) parent at.heads.leads e) at.heads.whole
 
-  pub unread_sound : (fault : Fault) → IsUnread root g fault → IsSoundNoStatus fault
-  unread_sound fault (inl tip) = of_only IsSoundNoStatus (tip_fault repo g) fault (limit_only IsSoundNoStatus large_looks (tip_fault repo g) (tip_read repo g at.heads.head at.heads.leads)) tip
-  unread_sound fault (inr (parent, tip, inl fails)) = of_limit IsSoundNoStatus large_looks fault (flat_read repo g parent fault (whole_at parent tip.1) fails)
-  unread_sound fault (inr (parent, tip, inr (old, flat, why))) = of_only IsSoundNoStatus (view_fault root g old) fault (view_sound root g old) why
+  -- the pointers of a whole commit are found
+  stopped_sound : (to_git : Bool) (old : List Entry) (fault : Fault) → pointers_fault repo old g ≡ None → (view_fault repo g old ≡ Some fault) ⊎ IsWalkRefused root to_git g old fault → IsSoundNoStatus fault
+  stopped_sound to_git old fault found (inl why) = of_only IsSoundNoStatus (view_fault repo g old) fault (or_only IsSoundNoStatus (pin_fault old) (pointers_fault repo old g) (pin_sound old) (subst Looks (sym found) tt)) why
+  stopped_sound to_git old fault found (inr why) =
+      let limits : List ℕ → ℕ = limit_by (record { old = old; pointers = why.pointers; to_git = to_git }) in
+      of_only IsSoundNoStatus (walk_fault limits root g) fault (walk_sound limits root g) why.walk
+
+  pub unread_sound : (to_git : Bool) (fault : Fault) → IsUnread root to_git g fault → IsSoundNoStatus fault
+  unread_sound to_git fault (inl tip) = of_only IsSoundNoStatus (tip_fault repo g) fault (limit_only IsSoundNoStatus large_looks (tip_fault repo g) (tip_read repo g at.heads.head at.heads.leads)) tip
+  unread_sound to_git fault (inr (parent, tip, inl fails)) = of_limit IsSoundNoStatus large_looks fault (flat_read repo g parent fault (whole_at parent tip.1) fails)
+  unread_sound to_git fault (inr (parent, tip, inr (old, flat, why))) = stopped_sound to_git old fault (whole_tells_pointers repo g parent old (whole_at parent tip.1) flat) why

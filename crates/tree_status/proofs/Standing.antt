@@ -12,43 +12,42 @@ use Rattle.faults.specs.declared.faults.Fault.{Fault}
 use Rattle.faults.specs.declared.faults.Fault.TheVariants.{TooLarge}
 use Rattle.repository.specs.All.{item_limit}
 use Rattle.tree_status.specs.All.{walk_fault, working, ItemKind, Directory, Nested}
-use Rattle.tree_status.specs.All.{Working, items, item_kind, is_nested, git_file_limit}
-use Rattle.tree_status.specs.All.{directory_of, item_fault, fault_along, files_among}
+use Rattle.tree_status.specs.All.{Working, items, item_kind, is_nested}
+use Rattle.tree_status.specs.All.{directory_of, item_fault, fault_along, files_among, WorkFile}
 use Rattle.tree_status.proofs.Items.{IsFound, each_item, whole_of, pieces_of}
 use Rattle.tree_status.proofs.Paths.{names_whole}
-use Rattle.tree_status.specs.Changes.{WorkFile}
 
 -- a file at its place
-pub record IsStanding (root : Names) (g : Ground) (file : WorkFile) : Type 0 where
+pub record IsStanding (limits : List ℕ → ℕ) (root : Names) (g : Ground) (file : WorkFile) : Type 0 where
   pub names : Names
   pub parts : pieces file.0 ≡ names
   pub named : names_of file.0 ≡ names
   pub place : is_text (joined root file.0) ≡ true
   pub stands : file_at g (root ++ names) ≡ Some file.1
-  pub short : length file.1 ≤ git_file_limit
+  pub short : length file.1 ≤ limits file.0
 
 -- NO REFUSAL along some items
 or_none : (a b : Option Fault) → or_next a b ≡ None → (a ≡ None) × (b ≡ None)
 or_none None b e = (refl, e)
 or_none (Some fault) b e = absurd (cc e)
 
-module _ (root : Names) where
-  pub each_passed : (count : ℕ) (list : List (List ℕ × ItemKind)) → fault_along root count list ≡ None → AllByRecursion (λ item. item_fault root item.0 item.1 ≡ None) list
+module _ (limits : List ℕ → ℕ) (root : Names) where
+  pub each_passed : (count : ℕ) (list : List (List ℕ × ItemKind)) → fault_along limits root count list ≡ None → AllByRecursion (λ item. item_fault limits root item.0 item.1 ≡ None) list
   each_passed count [] e = tt
   each_passed count (item ∷ rest) e = by (nat_le item_limit count) e (each_passed (count + 1) rest)
     where
-      by : (b : Bool) → cond b (Some (TooLarge (codes ".") 100001)) (or_next (item_fault root item.0 item.1) (fault_along root (count + 1) rest)) ≡ None
-          → (fault_along root (count + 1) rest ≡ None → AllByRecursion (λ item. item_fault root item.0 item.1 ≡ None) rest) → AllByRecursion (λ item. item_fault root item.0 item.1 ≡ None) (item ∷ rest)
+      by : (b : Bool) → cond b (Some (TooLarge (codes ".") 100001)) (or_next (item_fault limits root item.0 item.1) (fault_along limits root (count + 1) rest)) ≡ None
+          → (fault_along limits root (count + 1) rest ≡ None → AllByRecursion (λ item. item_fault limits root item.0 item.1 ≡ None) rest) → AllByRecursion (λ item. item_fault limits root item.0 item.1 ≡ None) (item ∷ rest)
       by true e more = absurd (cc e)
-      by false e more = let p = or_none (item_fault root item.0 item.1) (fault_along root (count + 1) rest) e in (p.0, more p.1)
+      by false e more = let p = or_none (item_fault limits root item.0 item.1) (fault_along limits root (count + 1) rest) e in (p.0, more p.1)
 
   -- a working file that isn't refused has a place, and isn't too long
-  pub passed : (path bytes : List ℕ) → item_fault root path (Working bytes) ≡ None → (is_text (joined root path) ≡ true) × (length bytes ≤ git_file_limit)
-  passed path bytes e = by (is_text (joined root path)) (nat_le (length bytes) git_file_limit) refl refl e
+  pub passed : (path bytes : List ℕ) → item_fault limits root path (Working bytes) ≡ None → (is_text (joined root path) ≡ true) × (length bytes ≤ limits path)
+  passed path bytes e = by (is_text (joined root path)) (nat_le (length bytes) (limits path)) refl refl e
     where
-      by : (a b : Bool) → is_text (joined root path) ≡ a → nat_le (length bytes) git_file_limit ≡ b
-          → cond a (cond b None (Some (TooLarge path (length bytes)))) (Some (TooLarge (directory_of path) (length (joined root path)))) ≡ None → (is_text (joined root path) ≡ true) × (length bytes ≤ git_file_limit)
-      by true true a b e = (a, leb-true (length bytes) git_file_limit b)
+      by : (a b : Bool) → is_text (joined root path) ≡ a → nat_le (length bytes) (limits path) ≡ b
+          → cond a (cond b None (Some (TooLarge path (length bytes)))) (Some (TooLarge (directory_of path) (length (joined root path)))) ≡ None → (is_text (joined root path) ≡ true) × (length bytes ≤ limits path)
+      by true true a b e = (a, leb-true (length bytes) (limits path) b)
       by true false a b e = absurd (cc e)
       by false b a is e = absurd (cc e)
 
@@ -61,8 +60,8 @@ module _ (root : Names) where
   file_by None false bytes e = absurd (cc e)
 
   module _ (g : Ground) where
-    standing_in : (list : List (List ℕ × ItemKind)) → AllByRecursion (λ item. IsFound root g item.0 item.1) list → AllByRecursion (λ item. item_fault root item.0 item.1 ≡ None) list
-        → AllByRecursion (IsStanding root g) (files_among list)
+    standing_in : (list : List (List ℕ × ItemKind)) → AllByRecursion (λ item. IsFound root g item.0 item.1) list → AllByRecursion (λ item. item_fault limits root item.0 item.1 ≡ None) list
+        → AllByRecursion (IsStanding limits root g) (files_among list)
     standing_in [] found passes = tt
     standing_in ((path, Directory) ∷ rest) found passes = standing_in rest found.1 passes.1
     standing_in ((path, Nested) ∷ rest) found passes = standing_in rest found.1 passes.1
@@ -80,11 +79,11 @@ module _ (root : Names) where
           standing_in rest found.1 passes.1,
         )
 
-    pub all_standing : walk_fault root g ≡ None → AllByRecursion (IsStanding root g) (working root g)
+    pub all_standing : walk_fault limits root g ≡ None → AllByRecursion (IsStanding limits root g) (working root g)
     all_standing none = standing_in (entries (items root g)) (each_item root g) (each_passed 0 (entries (items root g)) none)
 
     -- NONE LIES ABOVE another
-    pub none_above : IsGround g → (one next : WorkFile) (rest : List ℕ) → IsStanding root g one → IsStanding root g next → next.0 ≡ one.0 ++ slash ∷ rest → ⊥
+    pub none_above : IsGround g → (one next : WorkFile) (rest : List ℕ) → IsStanding limits root g one → IsStanding limits root g next → next.0 ≡ one.0 ++ slash ∷ rest → ⊥
     none_above is one next rest s t e =
         let more : SomeParts (pieces rest) = pieces_some rest in
         let names : t.names ≡ s.names ++ pieces rest = sym t.parts ∙ ap pieces e ∙ pieces-append one.0 rest ∙ ap (λ (ns : Names). ns ++ pieces rest) s.parts in

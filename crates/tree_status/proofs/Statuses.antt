@@ -14,10 +14,7 @@ use Rattle.acts.specs.All.{Reads}
 use Rattle.acts.proofs.Reading.{read_gives, read_refuses, read_starves, read_err}
 use Rattle.repository.specs.All.{large, repo_head, repo_of}
 use Rattle.ref_store.specs.All.{damaged_unless, head_at, lead_fault, long_place}
-use Rattle.tree_status.specs.All.{working}
-use Rattle.snapshot.specs.declared.entries.Entry.{Entry}
-use Rattle.tree_status.specs.Changed.{as_files}
-use Rattle.tree_status.specs.Changes.{WorkFile, changes}
+use Rattle.tree_status.specs.Changes.{changes}
 use Rattle.tree_status.specs.Looks.{IsUnread, IsRepo}
 use Rattle.tree_status.specs.Status.{IsStatus, StatusIsComplete, StatusIsOne, status_line}
 use Rattle.tree_status.specs.Status.{status_text}
@@ -35,7 +32,7 @@ lines_text (change ∷ more) some = refl
 -- THE READING
 module _ (tells : Bool) (root : Names) where
   abbrev pub Seen : Drive → Drive → Result (Vec ℕ Global) Trouble → Type 0
-  Seen old new r = Reads (λ fault. MayView tells root fault) tells (λ g text. IsStatus root g text.items) (λ g fault. IsUnread root g fault) old new r
+  Seen old new r = Reads (λ fault. MayView tells root fault) tells (λ g text. IsStatus root g text.items) (λ g fault. IsUnread root false g fault) old new r
 
   pub long_seen : (fault : Fault) → long_place (repo_head (repo_of root)) ≡ Some fault → MayView tells root fault
   long_seen fault is = by (nat_lt longest (length (text_of (repo_head (repo_of root))))) refl is
@@ -58,29 +55,30 @@ module _ (tells : Bool) (root : Names) where
   unplaced NoMemory is = read_starves refl (λ t. refl)
 
   -- what is looked at isn't read
-  pub unseen : {old new : Drive} {e : Trouble} → Reads (λ fault. MayView tells root fault) tells (λ g view. IsView root g view) (λ g fault. IsUnread root g fault) old new (Err e) → Seen old new (Err e)
+  pub unseen : {old new : Drive} {e : Trouble} → Reads (λ fault. MayView tells root fault) tells (λ g view. IsView root false g view) (λ g fault. IsUnread root false g fault) old new (Err e) → Seen old new (Err e)
   unseen reads = read_err (λ fault may. may) (λ fault no. no) reads
 
   module _ {view : View} {old mid : Drive}
-      (viewed : Reads (λ fault. MayView tells root fault) tells (λ g view. IsView root g view) (λ g fault. IsUnread root g fault) old mid (Ok view)) where
+      (viewed : Reads (λ fault. MayView tells root fault) tells (λ g view. IsView root false g view) (λ g fault. IsUnread root false g fault) old mid (Ok view)) where
     -- memory is wanting
     pub starved_then : Seen old mid (Err NoMemory)
     starved_then = read_starves viewed.later (λ t. (viewed.told t).same)
 
     -- it is read
-    pub seen : (found : List Change) → ((work : List WorkFile) → view.files.items ≡ as_files work → found ≡ changes view.old work) → (text : Vec ℕ Global) → text.items ≡ status_text found → Seen old mid (Ok text)
-    seen found are text is = read_gives viewed.later (λ t.
-        let at = (viewed.told t).answer in
-        ((viewed.told t).same, record { parent = view.parent.0; old = view.old; read = at.read; is = is ∙ ap status_text (are (working root (present old)) at.files) }))
+    pub seen : (found : List Change) → found ≡ changes view.by.old view.files.items → (text : Vec ℕ Global) → text.items ≡ status_text found → Seen old mid (Ok text)
+    seen found are text is = read_gives viewed.later (λ t. (
+      (viewed.told t).same,
+      record { parent = view.parent.0; by = view.by; files = view.files.items; read = (viewed.told t).answer; is = is ∙ ap status_text are },
+    ))
 
 -- THE LAWS
 pub status_once : StatusIsOne
 status_once root g (Ok a) (Ok b) one two =
-    let same = read_once root g one.parent two.parent one.old two.old one.read two.read in
-    ap Ok (one.is ∙ ap (λ (old : List Entry). status_text (changes old (working root g))) same.old ∙ sym two.is)
-status_once root g (Ok a) (Err fault) one two = absurd (unread_or_read root g fault one.parent one.old two one.read)
-status_once root g (Err fault) (Ok b) one two = absurd (unread_or_read root g fault two.parent two.old one two.read)
-status_once root g (Err one) (Err two) is other = ap Err (unread_once root g one two is other)
+    let same = read_once root false g one.parent two.parent one.by two.by one.files two.files one.read two.read in
+    ap Ok (one.is ∙ (λ i. status_text (changes (same.by i).old (same.kept i))) ∙ sym two.is)
+status_once root g (Ok a) (Err fault) one two = absurd (unread_or_read root false g fault one.parent one.by one.files two one.read)
+status_once root g (Err fault) (Ok b) one two = absurd (unread_or_read root false g fault two.parent two.by two.files one two.read)
+status_once root g (Err one) (Err two) is other = ap Err (unread_once root false g one two is other)
 
 pub status_complete : StatusIsComplete
-status_complete root g fault sound dataset is = unread_sound root g (sound root dataset) fault is
+status_complete root g fault sound dataset is = unread_sound root g (sound root dataset) false fault is

@@ -14,11 +14,11 @@ use Rattle.file_store.specs.declared.kinds.Item.{Item}
 use Rattle.faults.specs.declared.faults.Fault.{Fault}
 use Rattle.faults.specs.declared.faults.Fault.TheVariants.{OddKind, TooLarge, Dirty}
 use Rattle.tree_status.specs.Working.{is_working, items, item_at, fault_along, walk_fault}
-use Rattle.tree_status.specs.Working.{files_among}
+use Rattle.tree_status.specs.Working.{files_among, path_in}
 use Rattle.tree_status.specs.Tasks.{ArePlanned, IsTask}
 use Rattle.tree_status.specs.Walks.{one_of, front_of, IsFront, IsAt, is_within, within, is_front}
 use Rattle.tree_status.specs.Walks.{part, IsPlanned, IsPlannedBy, Went, MayMeet, MayWalk}
-use Rattle.tree_status.specs.Walks.{AreWorking, as_file}
+use Rattle.tree_status.specs.Walks.{AreWorking}
 use Rattle.tree_status.specs.declared.found.Found.{Found}
 use Rattle.tree_status.proofs.Paths.{AreWhole, working_whole, front_path, joined_whole, last_of_more, place_left, text_short, names_of_nothing}
 use Rattle.tree_status.proofs.Sorted.{filter_none, filter_all}
@@ -36,23 +36,23 @@ left_of [] names rest n ns is h =
 left_of (r ∷ root) names rest n ns is h = place_left r (root ++ names) rest h
 
 -- AN ITEM'S TASK
-module _ (root : Names) (g : Ground) (path : List ℕ) (kind : Kind) where
+module _ (limits : List ℕ → ℕ) (root : Names) (g : Ground) (path : List ℕ) (kind : Kind) where
   own_planned : is_front path ≡ false → IsPlanned root g path kind → (kind ≡ kind_at g (root ++ names_of path)) × (part path (items root g) ≡ one_of path (item_at g (root ++ names_of path)))
   own_planned plain planned =
       let p = subst (λ b. IsPlannedBy b root g path kind) plain planned in
       (p.0, part_own path (items root g) plain ∙ ap (one_of path) p.1)
 
-  pub own_went : (old new : Found) → ((front : List ℕ) → path ≡ front ++ slash ∷ [] → ⊥) → (kind ≡ kind_at g (root ++ names_of path) → Went root (one_of path (item_at g (root ++ names_of path))) old new)
-      → IsPlanned root g path kind → Went root (part path (items root g)) old new
+  pub own_went : (old new : Found) → ((front : List ℕ) → path ≡ front ++ slash ∷ [] → ⊥) → (kind ≡ kind_at g (root ++ names_of path) → Went limits root (one_of path (item_at g (root ++ names_of path))) old new)
+      → IsPlanned root g path kind → Went limits root (part path (items root g)) old new
   own_went old new plain went planned =
       let p = own_planned (no_front path plain) planned in
-      subst (λ l. Went root l old new) (sym p.1) (went p.0)
+      subst (λ l. Went limits root l old new) (sym p.1) (went p.0)
 
-  pub own_fails : (count : ℕ) (fault : Fault) → ((front : List ℕ) → path ≡ front ++ slash ∷ [] → ⊥) → (kind ≡ kind_at g (root ++ names_of path) → fault_along root count (one_of path (item_at g (root ++ names_of path))) ≡ Some fault)
-      → IsPlanned root g path kind → fault_along root count (part path (items root g)) ≡ Some fault
+  pub own_fails : (count : ℕ) (fault : Fault) → ((front : List ℕ) → path ≡ front ++ slash ∷ [] → ⊥) → (kind ≡ kind_at g (root ++ names_of path) → fault_along limits root count (one_of path (item_at g (root ++ names_of path))) ≡ Some fault)
+      → IsPlanned root g path kind → fault_along limits root count (part path (items root g)) ≡ Some fault
   own_fails count fault plain fails planned =
       let p = own_planned (no_front path plain) planned in
-      ap (fault_along root count) p.1 ∙ fails p.0
+      ap (fault_along limits root count) p.1 ∙ fails p.0
 
   -- A DIRECTORY'S TASK
   ends_so : (directory : List ℕ) → path ≡ directory ++ slash ∷ [] → is_front path ≡ true
@@ -95,9 +95,9 @@ module _ (root : Names) (g : Ground) (path : List ℕ) (kind : Kind) where
       ∙ left_of root (names_of path) (all_but_last (a.0 ∷ a.1)) d.0 d.1 d.2
       (ap (λ (z : Names). is_text (text_of z)) (append_assoc root (names_of path) (all_but_last (a.0 ∷ a.1)) ∙ ap (λ (z : Names). root ++ z) (sym (ap all_but_last a.2 ∙ last_of_more (names_of path) a.0 a.1))) ∙ placed))))
 
-  pub none_went : (directory : List ℕ) (found : Found) → path ≡ directory ++ slash ∷ [] → is_text (joined root directory) ≡ false → IsPlanned root g path kind → Went root (part path (items root g)) found found
+  pub none_went : (directory : List ℕ) (found : Found) → path ≡ directory ++ slash ∷ [] → is_text (joined root directory) ≡ false → IsPlanned root g path kind → Went limits root (part path (items root g)) found found
   none_went directory found is text planned =
-      subst (λ l. Went root l found found) (sym (part_inside path (items root g) (ends_so directory is) ∙ none_inside directory is (front_planned directory is planned) text)) (went_none root found)
+      subst (λ l. Went limits root l found found) (sym (part_inside path (items root g) (ends_so directory is) ∙ none_inside directory is (front_planned directory is planned) text)) (went_none limits root found)
 
   is_at : (directory : List ℕ) (place : Names) → path ≡ directory ++ slash ∷ [] → is_text (joined root directory) ≡ true → place ≡ root ++ names_of directory → names_of path ≡ names_of directory → IsPlanned root g path kind → IsAt root place path
   is_at directory place is text at same planned =
@@ -106,14 +106,14 @@ module _ (root : Names) (g : Ground) (path : List ℕ) (kind : Kind) where
       (front, there, ap (λ (z : Names). is_text (text_of z)) there ∙ ap is_text (sym (directory_text directory is front)) ∙ text)
 
   pub inside_went : (directory : List ℕ) (place : Names) (old new : Found) → path ≡ directory ++ slash ∷ [] → is_text (joined root directory) ≡ true → place ≡ root ++ names_of directory → names_of path ≡ names_of directory
-      → (IsAt root place path → Went root (within path (items root g)) old new) → IsPlanned root g path kind → Went root (part path (items root g)) old new
+      → (IsAt root place path → Went limits root (within path (items root g)) old new) → IsPlanned root g path kind → Went limits root (part path (items root g)) old new
   inside_went directory place old new is text at same went planned =
-      subst (λ l. Went root l old new) (sym (part_inside path (items root g) (ends_so directory is))) (went (is_at directory place is text at same planned))
+      subst (λ l. Went limits root l old new) (sym (part_inside path (items root g) (ends_so directory is))) (went (is_at directory place is text at same planned))
 
   pub inside_fails : (directory : List ℕ) (place : Names) (count : ℕ) (fault : Fault) → path ≡ directory ++ slash ∷ [] → is_text (joined root directory) ≡ true → place ≡ root ++ names_of directory → names_of path ≡ names_of directory
-      → (IsAt root place path → fault_along root count (within path (items root g)) ≡ Some fault) → IsPlanned root g path kind → fault_along root count (part path (items root g)) ≡ Some fault
+      → (IsAt root place path → fault_along limits root count (within path (items root g)) ≡ Some fault) → IsPlanned root g path kind → fault_along limits root count (part path (items root g)) ≡ Some fault
   inside_fails directory place count fault is text at same fails planned =
-      ap (fault_along root count) (part_inside path (items root g) (ends_so directory is)) ∙ fails (is_at directory place is text at same planned)
+      ap (fault_along limits root count) (part_inside path (items root g) (ends_so directory is)) ∙ fails (is_at directory place is text at same planned)
 
 -- how long a path may be
 pub path_short : (root : Names) (directory path : List ℕ) → path ≡ directory ++ slash ∷ [] → is_text (joined root directory) ≡ true → length path ≤ longest + 1
@@ -132,25 +132,25 @@ pub task_is : (all tasks xs ys : List Item) (x : Item) → list_all is_item_name
 task_is all tasks xs ys x named planned split =
     task_of x.name (each_at (λ task. TaskFacts task.name) xs x ys (subst (λ l. AllByRecursion (λ task. TaskFacts task.name) l) split (each_facts all tasks named planned)))
 
-module _ (root : Names) (g : Ground) (place : Names) (front : List ℕ) (all tasks : List Item) (l : Listed root g place front all tasks) where
+module _ (limits : List ℕ → ℕ) (root : Names) (g : Ground) (place : Names) (front : List ℕ) (all tasks : List Item) (l : Listed root g place front all tasks) where
   planned_at : (xs : List Item) (x : Item) (ys : List Item) → tasks ≡ xs ++ x ∷ ys → IsPlanned root g (front ++ x.name) x.kind
   planned_at xs x ys split = each_at (λ task. IsPlanned root g (front ++ task.name) task.kind) xs x ys (subst (λ l. AllByRecursion (λ task. IsPlanned root g (front ++ task.name) task.kind) l) split (each_planned root g place front all tasks l))
 
-  pub task_went : (xs : List Item) (x : Item) (ys : List Item) (old mid new : Found) → tasks ≡ xs ++ x ∷ ys → Went root (parts front xs (items root g)) old mid
-      → (IsPlanned root g (front ++ x.name) x.kind → Went root (part (front ++ x.name) (items root g)) mid new) → Went root (parts front (xs ++ x ∷ []) (items root g)) old new
+  pub task_went : (xs : List Item) (x : Item) (ys : List Item) (old mid new : Found) → tasks ≡ xs ++ x ∷ ys → Went limits root (parts front xs (items root g)) old mid
+      → (IsPlanned root g (front ++ x.name) x.kind → Went limits root (part (front ++ x.name) (items root g)) mid new) → Went limits root (parts front (xs ++ x ∷ []) (items root g)) old new
   task_went xs x ys old mid new split so_far went =
-      subst (λ l. Went root l old new)
+      subst (λ l. Went limits root l old new)
       (ap (λ l. parts front xs (items root g) ++ l) (sym (append-nil (part (front ++ x.name) (items root g)))) ∙ sym (flat_map-append (λ (task : Item). part (front ++ task.name) (items root g)) xs (x ∷ [])))
-      (went_more root (parts front xs (items root g)) (part (front ++ x.name) (items root g)) old mid new so_far (went (planned_at xs x ys split)))
+      (went_more limits root (parts front xs (items root g)) (part (front ++ x.name) (items root g)) old mid new so_far (went (planned_at xs x ys split)))
 
-  pub task_fails : (xs : List Item) (x : Item) (ys : List Item) (old mid : Found) (fault : Fault) → tasks ≡ xs ++ x ∷ ys → Went root (parts front xs (items root g)) old mid
-      → (IsPlanned root g (front ++ x.name) x.kind → fault_along root mid.count (part (front ++ x.name) (items root g)) ≡ Some fault) → fault_along root old.count (within front (items root g)) ≡ Some fault
+  pub task_fails : (xs : List Item) (x : Item) (ys : List Item) (old mid : Found) (fault : Fault) → tasks ≡ xs ++ x ∷ ys → Went limits root (parts front xs (items root g)) old mid
+      → (IsPlanned root g (front ++ x.name) x.kind → fault_along limits root mid.count (part (front ++ x.name) (items root g)) ≡ Some fault) → fault_along limits root old.count (within front (items root g)) ≡ Some fault
   task_fails xs x ys old mid fault split so_far fails =
-      ap (fault_along root old.count) (sym (parts_are root g place front all tasks l) ∙ ap (λ l. parts front l (items root g)) split ∙ flat_map-append (λ (task : Item). part (front ++ task.name) (items root g)) xs (x ∷ ys))
-      ∙ went_fails root (parts front xs (items root g)) (part (front ++ x.name) (items root g)) (parts front ys (items root g)) old mid fault so_far (fails (planned_at xs x ys split))
+      ap (fault_along limits root old.count) (sym (parts_are root g place front all tasks l) ∙ ap (λ l. parts front l (items root g)) split ∙ flat_map-append (λ (task : Item). part (front ++ task.name) (items root g)) xs (x ∷ ys))
+      ∙ went_fails limits root (parts front xs (items root g)) (part (front ++ x.name) (items root g)) (parts front ys (items root g)) old mid fault so_far (fails (planned_at xs x ys split))
 
-  pub all_went : (old new : Found) → Went root (parts front tasks (items root g)) old new → Went root (within front (items root g)) old new
-  all_went old new went = subst (λ l. Went root l old new) (parts_are root g place front all tasks l) went
+  pub all_went : (old new : Found) → Went limits root (parts front tasks (items root g)) old new → Went limits root (within front (items root g)) old new
+  all_went old new went = subst (λ l. Went limits root l old new) (parts_are root g place front all tasks l) went
 
 -- FROM THE ROOT
 pub front_nothing : IsFront []
@@ -171,22 +171,22 @@ unfolding within
 all_within root g = filter_all (λ e. IsFound root g e.0 e.1) (λ e. is_within [] e.0) (entries (items root g)) (each_item root g)
     (λ e found. ap (λ (z : Names). is_above z (pieces e.0)) names_of_nothing ∙ above_some (pieces e.0) (pieces_some e.0))
 
-may_walk : (tells : Bool) (root : Names) (g : Ground) (fault : Fault) → MayMeet root fault → (IsTrue tells → walk_fault root g ≡ Some fault) → MayWalk tells root fault
-may_walk tells root g (OddKind path) may told = may
-may_walk tells root g (Dirty path) may told = (may, λ t. never_dirty root 0 (entries (items root g)) path (told t))
-may_walk tells root g (TooLarge path size) may told = may
-may_walk tells root g fault may told = absurd may
+may_walk : (limits : List ℕ → ℕ) (tells : Bool) (root : Names) (g : Ground) (fault : Fault) → MayMeet root fault → (IsTrue tells → walk_fault limits root g ≡ Some fault) → MayWalk tells root fault
+may_walk limits tells root g (OddKind path) may told = may
+may_walk limits tells root g (Dirty path) may told = (may, λ t. never_dirty limits root 0 (entries (items root g)) path (told t))
+may_walk limits tells root g (TooLarge path size) may told = may
+may_walk limits tells root g fault may told = absurd may
 
-module _ (root : Names) (g : Ground) (text : is_text (text_of root) ≡ true) where
-  pub root_fails : (fault : Fault) → (IsAt root root [] → fault_along root 0 (within [] (items root g)) ≡ Some fault) → walk_fault root g ≡ Some fault
-  root_fails fault fails = ap (fault_along root 0) (sym (all_within root g)) ∙ fails (at_root root text)
+module _ (limits : List ℕ → ℕ) (root : Names) (g : Ground) (text : is_text (text_of root) ≡ true) where
+  pub root_fails : (fault : Fault) → (IsAt root root [] → fault_along limits root 0 (within [] (items root g)) ≡ Some fault) → walk_fault limits root g ≡ Some fault
+  root_fails fault fails = ap (fault_along limits root 0) (sym (all_within root g)) ∙ fails (at_root root text)
 
-  pub root_may : (tells : Bool) (fault : Fault) → MayMeet root fault → (IsTrue tells → IsAt root root [] → fault_along root 0 (within [] (items root g)) ≡ Some fault) → MayWalk tells root fault
-  root_may tells fault may told = may_walk tells root g fault may (λ t. root_fails fault (told t))
+  pub root_may : (tells : Bool) (fault : Fault) → MayMeet root fault → (IsTrue tells → IsAt root root [] → fault_along limits root 0 (within [] (items root g)) ≡ Some fault) → MayWalk tells root fault
+  root_may tells fault may told = may_walk limits tells root g fault may (λ t. root_fails fault (told t))
 
-  pub root_went : (old new : Found) → old.count ≡ 0 → old.files.items ≡ [] → (IsAt root root [] → Went root (within [] (items root g)) old new) → AreWorking root g new.files.items
+  pub root_went : (old new : Found) → old.count ≡ 0 → old.paths.items ≡ [] → (IsAt root root [] → Went limits root (within [] (items root g)) old new) → AreWorking limits root g new.paths.items
   root_went old new count none went =
       let w = went (at_root root text) in (
-        (λ i. fault_along root (sym count i) (sym (all_within root g) i)) ∙ w.fault,
-        w.files ∙ (λ i. none i ++ map as_file (files_among (all_within root g i))),
+        (λ i. fault_along limits root (sym count i) (sym (all_within root g) i)) ∙ w.fault,
+        w.paths ∙ (λ i. none i ++ map path_in (files_among (all_within root g i))),
       )

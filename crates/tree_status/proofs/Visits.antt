@@ -11,9 +11,9 @@ use Rattle.faults.specs.declared.faults.Fault.{Fault}
 use Rattle.faults.specs.declared.faults.Fault.TheVariants.{OddKind, TooLarge, Dirty}
 use Rattle.tree_status.specs.Working.{ItemKind, Working, is_nested, directory_kind, item_of}
 use Rattle.tree_status.specs.Working.{item_at, kind_fault, item_fault, fault_along}
-use Rattle.tree_status.specs.Working.{directory_of, files_among}
+use Rattle.tree_status.specs.Working.{directory_of, files_among, path_in}
 use Rattle.tree_status.specs.Walks.{Went, one_of, Takes, RefusesItem, AddsFile, file_fault, MayFile}
-use Rattle.tree_status.specs.Walks.{MayNest, MayTake, MayMeet, HasPlace, as_file}
+use Rattle.tree_status.specs.Walks.{MayNest, MayTake, MayMeet, HasPlace}
 use Rattle.tree_status.specs.declared.found.Found.{Found}
 
 -- WHAT A LISTING SAYS of a place
@@ -112,74 +112,74 @@ may_meet root path placed (TooLarge at size) h = inr (inl (h.1, ap (λ z. is_tex
 may_meet root path placed fault h = absurd h
 
 -- TAKING what stands at a place
-pub takes_file : (g : Ground) (place : Names) (path : List ℕ) (old new : Found) → File ≡ kind_at g place → AddsFile path (file_at g place) old new → Takes path (item_at g place) old new
-takes_file g place path old new e adds =
+pub takes_file : (limits : List ℕ → ℕ) (g : Ground) (place : Names) (path : List ℕ) (old new : Found) → File ≡ kind_at g place → AddsFile limits path (file_at g place) old new → Takes limits path (item_at g place) old new
+takes_file limits g place path old new e adds =
     let f = at_file g place e in
-    subst (λ (o : Option ItemKind). Takes path o old new) (sym f.item) (subst (λ (o : Option (List ℕ)). AddsFile path o old new) f.file adds)
+    subst (λ (o : Option ItemKind). Takes limits path o old new) (sym f.item) (subst (λ (o : Option (List ℕ)). AddsFile limits path o old new) f.file adds)
 
-pub refuses_file : (g : Ground) (place : Names) (path : List ℕ) (fault : Fault) → File ≡ kind_at g place → file_fault path (file_at g place) ≡ Some fault → RefusesItem path (item_at g place) fault
-refuses_file g place path fault e h =
+pub refuses_file : (limits : List ℕ → ℕ) (g : Ground) (place : Names) (path : List ℕ) (fault : Fault) → File ≡ kind_at g place → file_fault limits path (file_at g place) ≡ Some fault → RefusesItem limits path (item_at g place) fault
+refuses_file limits g place path fault e h =
     let f = at_file g place e in
-    subst (λ (o : Option ItemKind). RefusesItem path o fault) (sym f.item) (ap (file_fault path) (sym f.file) ∙ h)
+    subst (λ (o : Option ItemKind). RefusesItem limits path o fault) (sym f.item) (ap (file_fault limits path) (sym f.file) ∙ h)
 
-pub takes_directory : (g : Ground) (place : Names) (path : List ℕ) (found : Found) → Dir ≡ kind_at g place → is_nested g place ≡ false → Takes path (item_at g place) found found
-takes_directory g place path found e not =
-    subst (λ (o : Option ItemKind). Takes path o found found) (sym (at_dir g place e ∙ ap (λ b. Some (directory_kind b)) not)) (refl, refl, sym (append-nil found.files.items))
+pub takes_directory : (limits : List ℕ → ℕ) (g : Ground) (place : Names) (path : List ℕ) (found : Found) → Dir ≡ kind_at g place → is_nested g place ≡ false → Takes limits path (item_at g place) found found
+takes_directory limits g place path found e not =
+    subst (λ (o : Option ItemKind). Takes limits path o found found) (sym (at_dir g place e ∙ ap (λ b. Some (directory_kind b)) not)) (refl, refl, sym (append-nil found.paths.items))
 
-pub refuses_directory : (g : Ground) (place : Names) (path : List ℕ) (fault : Fault) → Dir ≡ kind_at g place → (is_nested g place ≡ true) × (fault ≡ OddKind path) → RefusesItem path (item_at g place) fault
-refuses_directory g place path fault e (nested, is) =
-    subst (λ (o : Option ItemKind). RefusesItem path o fault) (sym (at_dir g place e ∙ ap (λ b. Some (directory_kind b)) nested)) (ap Some (sym is))
+pub refuses_directory : (limits : List ℕ → ℕ) (g : Ground) (place : Names) (path : List ℕ) (fault : Fault) → Dir ≡ kind_at g place → (is_nested g place ≡ true) × (fault ≡ OddKind path) → RefusesItem limits path (item_at g place) fault
+refuses_directory limits g place path fault e (nested, is) =
+    subst (λ (o : Option ItemKind). RefusesItem limits path o fault) (sym (at_dir g place e ∙ ap (λ b. Some (directory_kind b)) nested)) (ap Some (sym is))
 
-refuses_absent : (g : Ground) (place : Names) (path : List ℕ) (fault : Fault) → Absent ≡ kind_at g place → RefusesItem path (item_at g place) fault
-refuses_absent g place path fault e = subst (λ (o : Option ItemKind). RefusesItem path o fault) (sym (at_absent g place e)) tt
+refuses_absent : (limits : List ℕ → ℕ) (g : Ground) (place : Names) (path : List ℕ) (fault : Fault) → Absent ≡ kind_at g place → RefusesItem limits path (item_at g place) fault
+refuses_absent limits g place path fault e = subst (λ (o : Option ItemKind). RefusesItem limits path o fault) (sym (at_absent g place e)) tt
 
-pub refuses_odd : (g : Ground) (place : Names) (path : List ℕ) (fault : Fault) (kind : Kind) → (kind ≡ Absent) ⊎ (kind ≡ Other) → kind ≡ kind_at g place → RefusesItem path (item_at g place) fault
-refuses_odd g place path fault kind (inl absent) is = refuses_absent g place path fault (sym absent ∙ is)
-refuses_odd g place path fault kind (inr odd) is = absurd (not_other g place (sym odd ∙ is))
+pub refuses_odd : (limits : List ℕ → ℕ) (g : Ground) (place : Names) (path : List ℕ) (fault : Fault) (kind : Kind) → (kind ≡ Absent) ⊎ (kind ≡ Other) → kind ≡ kind_at g place → RefusesItem limits path (item_at g place) fault
+refuses_odd limits g place path fault kind (inl absent) is = refuses_absent limits g place path fault (sym absent ∙ is)
+refuses_odd limits g place path fault kind (inr odd) is = absurd (not_other g place (sym odd ∙ is))
 
 -- VISITING an item
-module _ (g : Ground) (root : Names) (path : List ℕ) (place : Names) (kind : Kind) where
-  pub visit_absent : (found : Found) → kind ≡ Absent → kind ≡ kind_at g place → Went root (one_of path (item_at g place)) found found
+module _ (limits : List ℕ → ℕ) (g : Ground) (root : Names) (path : List ℕ) (place : Names) (kind : Kind) where
+  pub visit_absent : (found : Found) → kind ≡ Absent → kind ≡ kind_at g place → Went limits root (one_of path (item_at g place)) found found
   visit_absent found absent is =
-      subst (λ (o : Option ItemKind). Went root (one_of path o) found found) (sym (at_absent g place (sym absent ∙ is)))
-      (record { fault = refl; count = omega arith; files = sym (append-nil found.files.items) })
+      subst (λ (o : Option ItemKind). Went limits root (one_of path o) found found) (sym (at_absent g place (sym absent ∙ is)))
+      (record { fault = refl; count = omega arith; paths = sym (append-nil found.paths.items) })
 
   -- too many items
-  pub visit_many : (count : ℕ) (fault : Fault) → (kind ≡ Absent → ⊥) → kind ≡ kind_at g place → nat_le item_limit count ≡ true → fault ≡ TooLarge (codes ".") 100001 → fault_along root count (one_of path (item_at g place)) ≡ Some fault
+  pub visit_many : (count : ℕ) (fault : Fault) → (kind ≡ Absent → ⊥) → kind ≡ kind_at g place → nat_le item_limit count ≡ true → fault ≡ TooLarge (codes ".") 100001 → fault_along limits root count (one_of path (item_at g place)) ≡ Some fault
   visit_many count fault not is many e =
       let s = some_item g place kind is not in
-      ap (λ (o : Option ItemKind). fault_along root count (one_of path o)) s.1
-      ∙ ap (λ b. cond b (Some (TooLarge (codes ".") 100001)) (or_next (item_fault root path s.0) None)) many
+      ap (λ (o : Option ItemKind). fault_along limits root count (one_of path o)) s.1
+      ∙ ap (λ b. cond b (Some (TooLarge (codes ".") 100001)) (or_next (item_fault limits root path s.0) None)) many
       ∙ ap Some (sym e)
 
   -- no place
   pub visit_long : (count : ℕ) (fault : Fault) → (kind ≡ Absent → ⊥) → kind ≡ kind_at g place → nat_le item_limit count ≡ false → is_text (joined root path) ≡ false
-      → fault ≡ TooLarge (directory_of path) (length (joined root path)) → fault_along root count (one_of path (item_at g place)) ≡ Some fault
+      → fault ≡ TooLarge (directory_of path) (length (joined root path)) → fault_along limits root count (one_of path (item_at g place)) ≡ Some fault
   visit_long count fault not is few text e =
       let s = some_item g place kind is not in
-      ap (λ (o : Option ItemKind). fault_along root count (one_of path o)) s.1
-      ∙ (λ i. cond (few i) (Some (TooLarge (codes ".") 100001)) (or_next (cond (text i) (kind_fault path s.0) (Some (TooLarge (directory_of path) (length (joined root path))))) None))
+      ap (λ (o : Option ItemKind). fault_along limits root count (one_of path o)) s.1
+      ∙ (λ i. cond (few i) (Some (TooLarge (codes ".") 100001)) (or_next (cond (text i) (kind_fault limits path s.0) (Some (TooLarge (directory_of path) (length (joined root path))))) None))
       ∙ ap Some (sym e)
 
-  one_fault : (count : ℕ) (item : ItemKind) → nat_le item_limit count ≡ false → is_text (joined root path) ≡ true → fault_along root count ((path, item) ∷ []) ≡ or_next (kind_fault path item) None
+  one_fault : (count : ℕ) (item : ItemKind) → nat_le item_limit count ≡ false → is_text (joined root path) ≡ true → fault_along limits root count ((path, item) ∷ []) ≡ or_next (kind_fault limits path item) None
   one_fault count item few text =
-      λ i. cond (few i) (Some (TooLarge (codes ".") 100001)) (or_next (cond (text i) (kind_fault path item) (Some (TooLarge (directory_of path) (length (joined root path))))) None)
+      λ i. cond (few i) (Some (TooLarge (codes ".") 100001)) (or_next (cond (text i) (kind_fault limits path item) (Some (TooLarge (directory_of path) (length (joined root path))))) None)
 
   pub visit_refuses : (count : ℕ) (fault : Fault) → (kind ≡ Absent → ⊥) → kind ≡ kind_at g place → nat_le item_limit count ≡ false → is_text (joined root path) ≡ true
-      → RefusesItem path (item_at g place) fault → fault_along root count (one_of path (item_at g place)) ≡ Some fault
+      → RefusesItem limits path (item_at g place) fault → fault_along limits root count (one_of path (item_at g place)) ≡ Some fault
   visit_refuses count fault not is few text refuses =
       let s = some_item g place kind is not in
-      let h : kind_fault path s.0 ≡ Some fault = subst (λ (o : Option ItemKind). RefusesItem path o fault) s.1 refuses in
-      ap (λ (o : Option ItemKind). fault_along root count (one_of path o)) s.1 ∙ one_fault count s.0 few text ∙ ap (λ o. or_next o None) h
+      let h : kind_fault limits path s.0 ≡ Some fault = subst (λ (o : Option ItemKind). RefusesItem limits path o fault) s.1 refuses in
+      ap (λ (o : Option ItemKind). fault_along limits root count (one_of path o)) s.1 ∙ one_fault count s.0 few text ∙ ap (λ o. or_next o None) h
 
   pub visit_takes : (old mid new : Found) → (kind ≡ Absent → ⊥) → kind ≡ kind_at g place → nat_le item_limit old.count ≡ false → is_text (joined root path) ≡ true
-      → mid.count ≡ old.count + 1 → mid.files.items ≡ old.files.items → Takes path (item_at g place) mid new → Went root (one_of path (item_at g place)) old new
+      → mid.count ≡ old.count + 1 → mid.paths.items ≡ old.paths.items → Takes limits path (item_at g place) mid new → Went limits root (one_of path (item_at g place)) old new
   visit_takes old mid new not is few text more same takes =
       let s = some_item g place kind is not in
-      let h : Takes path (Some s.0) mid new = subst (λ (o : Option ItemKind). Takes path o mid new) s.1 takes in
-      subst (λ (o : Option ItemKind). Went root (one_of path o) old new) (sym s.1)
+      let h : Takes limits path (Some s.0) mid new = subst (λ (o : Option ItemKind). Takes limits path o mid new) s.1 takes in
+      subst (λ (o : Option ItemKind). Went limits root (one_of path o) old new) (sym s.1)
       (record {
         fault = one_fault old.count s.0 few text ∙ ap (λ o. or_next o None) h.0;
         count = h.1 ∙ more;
-        files = h.2 ∙ ap (λ l. l ++ map as_file (files_among ((path, s.0) ∷ []))) same;
+        paths = h.2 ∙ ap (λ l. l ++ map path_in (files_among ((path, s.0) ∷ []))) same;
       })

@@ -12,12 +12,12 @@ use Rattle.places.specs.All.{stands_below}
 use Rattle.places.proofs.Texts.{and_both}
 use Rattle.tree_status.specs.Working.{ItemKind, Directory, Nested, Working, is_working, is_met}
 use Rattle.tree_status.specs.Working.{is_nested, item_kind, item_of, item_at, items, files_among}
-use Rattle.tree_status.specs.Working.{working}
+use Rattle.tree_status.specs.Working.{path_in, working}
 use Rattle.tree_status.proofs.Items.{IsFound, each_item, item_is}
 use Rattle.tree_status.proofs.Sorted.{true_of, less_of}
 
 -- THEIR ORDER
-files_below : (path : List ℕ) (es : List (List ℕ × ItemKind)) → below_all (slice_cmp nat_cmp) path es ≡ true → AllByRecursion (λ k. slice_cmp nat_cmp path k ≡ Less) (map (λ file. file.0) (files_among es))
+files_below : (path : List ℕ) (es : List (List ℕ × ItemKind)) → below_all (slice_cmp nat_cmp) path es ≡ true → AllByRecursion (λ k. slice_cmp nat_cmp path k ≡ Less) (map path_in (files_among es))
 files_below path [] below = tt
 files_below path ((p, Directory) ∷ es) below = files_below path es (and_both (is_lt (slice_cmp nat_cmp path p)) (below_all (slice_cmp nat_cmp) path es) below).1
 files_below path ((p, Nested) ∷ es) below = files_below path es (and_both (is_lt (slice_cmp nat_cmp path p)) (below_all (slice_cmp nat_cmp) path es) below).1
@@ -25,7 +25,7 @@ files_below path ((p, Working bytes) ∷ es) below =
     let b = and_both (is_lt (slice_cmp nat_cmp path p)) (below_all (slice_cmp nat_cmp) path es) below in
     (less_of (slice_cmp nat_cmp path p) b.0, files_below path es b.1)
 
-files_ascend : (es : List (List ℕ × ItemKind)) → is_sorted (slice_cmp nat_cmp) es ≡ true → IsStrictlySortedBy (slice_cmp nat_cmp) (map (λ file. file.0) (files_among es))
+files_ascend : (es : List (List ℕ × ItemKind)) → is_sorted (slice_cmp nat_cmp) es ≡ true → IsStrictlySortedBy (slice_cmp nat_cmp) (map path_in (files_among es))
 unfolding IsStrictlySortedBy
 files_ascend [] sorted = tt
 files_ascend ((p, Directory) ∷ es) sorted = files_ascend es (and_both (below_all (slice_cmp nat_cmp) p es) (is_sorted (slice_cmp nat_cmp) es) sorted).1
@@ -35,7 +35,7 @@ files_ascend ((p, Working bytes) ∷ es) sorted =
     (files_below p es s.0, files_ascend es s.1)
 
 -- the paths ascend in byte order
-pub working_ascend : (root : Names) (g : Ground) → IsStrictlySortedBy (slice_cmp nat_cmp) (map (λ file. file.0) (working root g))
+pub working_ascend : (root : Names) (g : Ground) → IsStrictlySortedBy (slice_cmp nat_cmp) (map path_in (working root g))
 working_ascend root g = files_ascend (entries (items root g)) (true_of _ (entries_sorted (items root g)))
 
 -- EACH OF THEM

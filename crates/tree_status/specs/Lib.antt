@@ -1,6 +1,8 @@
 pub mod All
 pub mod Changed
 pub mod Changes
+pub mod Keeping
+pub mod KeepingFiles
 pub mod Looks
 pub mod Status
 pub mod Tasks

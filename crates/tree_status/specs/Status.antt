@@ -5,11 +5,11 @@ use Rattle.places.specs.All.{Names, Ground}
 use Rattle.faults.specs.declared.faults.Fault.{Fault}
 use Rattle.faults.specs.declared.faults.Fault.TheVariants.{OddKind, TooLarge, UnsupportedMode}
 use Rattle.snapshot.specs.declared.entries.Entry.{Entry}
-use Rattle.tree_status.specs.Working.{working}
 use Rattle.dataset.specs.All.{IsDataset, Sound}
-use Rattle.tree_status.specs.Changed.{AreOrdered}
-use Rattle.tree_status.specs.Changes.{WorkFile, changes, is_changed}
+use Rattle.tree_status.specs.Changes.{AreOrdered, changes, is_changed}
+use Rattle.tree_status.specs.Keeping.{KeepBy}
 use Rattle.tree_status.specs.Looks.{IsRead, IsUnread}
+use Rattle.tree_status.specs.declared.found.WorkingFile.{WorkingFile}
 use Rattle.tree_status.specs.declared.states.Change.{Change}
 use Rattle.tree_status.specs.declared.states.State.{State}
 use Rattle.tree_status.specs.declared.states.State.TheVariants.{Untracked, Modified, Deleted}
@@ -38,14 +38,15 @@ status_text (change ∷ more) = flat_map status_line (change ∷ more)
 -- files, in byte order of the paths.
 pub record IsStatus (root : Names) (g : Ground) (text : List ℕ) : Type 0 where
   pub parent : List ℕ
-  pub old : List Entry
-  pub read : IsRead root g parent old
-  pub is : text ≡ status_text (changes old (working root g))
+  pub by : KeepBy
+  pub files : List WorkingFile
+  pub read : IsRead root false g parent by files
+  pub is : text ≡ status_text (changes by.old files)
 
 -- How a status ends: with its text, or refused as what it looks at is.
 abbrev pub StatusEnds : Names → Ground → Result (List ℕ) Fault → Type 0
 StatusEnds root g (Ok text) = IsStatus root g text
-StatusEnds root g (Err fault) = IsUnread root g fault
+StatusEnds root g (Err fault) = IsUnread root false g fault
 
 -- What any status is, whatever the files tell: lines of changes, with ascending paths.
 pub record IsStatusText (text : List ℕ) : Type 0 where
@@ -69,9 +70,9 @@ IsSoundNoStatus fault = ⊥
 -- The status of a sound dataset is refused for nothing that the program itself has left there.
 abbrev pub StatusIsComplete : Type 0
 StatusIsComplete = (root : Names) (g : Ground) (fault : Fault) → Sound g → IsDataset root g
-    → IsUnread root g fault → IsSoundNoStatus fault
+    → IsUnread root false g fault → IsSoundNoStatus fault
 
 -- Nothing is among the changes exactly where nothing has changed.
 abbrev pub CleanIsUnchanged : Type 0
-CleanIsUnchanged = (old : List Entry) (files : List WorkFile)
+CleanIsUnchanged = (old : List Entry) (files : List WorkingFile)
     → (changes old files ≡ []) ↔ (is_changed old files ≡ false)

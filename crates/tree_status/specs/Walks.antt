@@ -8,31 +8,27 @@ use Rattle.places.specs.All.{Names, slash, is_text, text_of, joined, names_of, p
 use Rattle.places.specs.All.{Ground, longest}
 use Rattle.file_store.specs.All.{kind_at}
 use Rattle.file_store.specs.declared.kinds.Kind.{Kind}
-use Rattle.git_objects.specs.All.{oid}
-use Rattle.git_objects.specs.declared.objects.ObjKind.TheVariants.{Blob}
 use Rattle.faults.specs.declared.faults.Fault.{Fault}
 use Rattle.faults.specs.declared.faults.Fault.TheVariants.{OddKind, TooLarge, Dirty}
+use Rattle.kept_files.specs.All.{git_file_limit}
 use Rattle.repository.specs.All.{item_limit}
 use Rattle.tree_status.specs.Working.{ItemKind, Working, Items, items, item_at, is_working}
-use Rattle.tree_status.specs.Working.{git_file_limit, directory_of, kind_fault}
+use Rattle.tree_status.specs.Working.{directory_of, kind_fault, path_in}
 use Rattle.tree_status.specs.Working.{fault_along, walk_fault}
 use Rattle.tree_status.specs.Working.{files_among, working}
 use Rattle.tree_status.specs.declared.found.Found.{Found}
-use Rattle.tree_status.specs.declared.found.WorkingFile.{WorkingFile}
 
--- A path of bytes, as the program has it: with the id of the blob with those bytes.
-abbrev pub as_file : List ℕ × List ℕ → WorkingFile
-as_file file = record { path = file.0; id = record { 0 = oid Blob file.1 } }
-
--- The answer of a walk: no refusal, and the working files.
-abbrev pub AreWorking : Names → Ground → List WorkingFile → Type 0
-AreWorking root g list = (walk_fault root g ≡ None) × (list ≡ map as_file (working root g))
+-- The answer of a walk: no refusal, and the paths of the working files.
+abbrev pub AreWorking : (List ℕ → ℕ) → Names → Ground → List (List ℕ) → Type 0
+AreWorking limits root g list =
+    (walk_fault limits root g ≡ None) × (list ≡ map path_in (working root g))
 
 -- Some items were met and not refused.
-pub record Went (root : Names) (some : List (List ℕ × ItemKind)) (old new : Found) : Type 0 where
-  pub fault : fault_along root old.count some ≡ None
+pub record Went (limits : List ℕ → ℕ) (root : Names) (some : List (List ℕ × ItemKind))
+    (old new : Found) : Type 0 where
+  pub fault : fault_along limits root old.count some ≡ None
   pub count : new.count ≡ old.count + length some
-  pub files : new.files.items ≡ old.files.items ++ map as_file (files_among some)
+  pub paths : new.paths.items ≡ old.paths.items ++ map path_in (files_among some)
 
 -- The list of an item, or none.
 abbrev pub one_of : List ℕ → Option ItemKind → List (List ℕ × ItemKind)
@@ -40,28 +36,28 @@ one_of path None = []
 one_of path (Some kind) = (path, kind) ∷ []
 
 -- The refusal of a file at a path: it is gone, or has too many bytes.
-abbrev pub file_fault : List ℕ → Option (List ℕ) → Option Fault
-file_fault path None = Some (Dirty path)
-file_fault path (Some bytes) = kind_fault path (Working bytes)
+abbrev pub file_fault : (List ℕ → ℕ) → List ℕ → Option (List ℕ) → Option Fault
+file_fault limits path None = Some (Dirty path)
+file_fault limits path (Some bytes) = kind_fault limits path (Working bytes)
 
 -- A file was added.
-abbrev pub AddsFile : List ℕ → Option (List ℕ) → Found → Found → Type 0
-AddsFile path None old new = ⊥
-AddsFile path (Some bytes) old new =
-    (kind_fault path (Working bytes) ≡ None) × (new.count ≡ old.count)
-    × (new.files.items ≡ old.files.items ++ as_file (path, bytes) ∷ [])
+abbrev pub AddsFile : (List ℕ → ℕ) → List ℕ → Option (List ℕ) → Found → Found → Type 0
+AddsFile limits path None old new = ⊥
+AddsFile limits path (Some bytes) old new =
+    (kind_fault limits path (Working bytes) ≡ None) × (new.count ≡ old.count)
+    × (new.paths.items ≡ old.paths.items ++ path ∷ [])
 
 -- What stands at a place was taken: it isn't refused, and a file was added.
-abbrev pub Takes : List ℕ → Option ItemKind → Found → Found → Type 0
-Takes path None old new = ⊥
-Takes path (Some kind) old new =
-    (kind_fault path kind ≡ None) × (new.count ≡ old.count)
-    × (new.files.items ≡ old.files.items ++ map as_file (files_among ((path, kind) ∷ [])))
+abbrev pub Takes : (List ℕ → ℕ) → List ℕ → Option ItemKind → Found → Found → Type 0
+Takes limits path None old new = ⊥
+Takes limits path (Some kind) old new =
+    (kind_fault limits path kind ≡ None) × (new.count ≡ old.count)
+    × (new.paths.items ≡ old.paths.items ++ map path_in (files_among ((path, kind) ∷ [])))
 
 -- The refusal of what stands at a place.
-abbrev pub RefusesItem : List ℕ → Option ItemKind → Fault → Type 0
-RefusesItem path None fault = Unit {0}
-RefusesItem path (Some kind) fault = kind_fault path kind ≡ Some fault
+abbrev pub RefusesItem : (List ℕ → ℕ) → List ℕ → Option ItemKind → Fault → Type 0
+RefusesItem limits path None fault = Unit {0}
+RefusesItem limits path (Some kind) fault = kind_fault limits path kind ≡ Some fault
 
 -- What may come of a file at a path, whatever the files tell.
 abbrev pub MayFile : List ℕ → Fault → Type 0

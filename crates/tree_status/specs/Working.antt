@@ -74,45 +74,51 @@ item_of None below nested = if below then Some (directory_kind nested) else None
 unfoldable pub item_at : Ground → Names → Option ItemKind
 item_at g place = item_of (file_at g place) (stands_below g place) (is_nested g place)
 
--- How many bytes a working file may have.
-abbrev pub git_file_limit : ℕ
-git_file_limit = 16777216
-
 -- The path of the directory in which a path lies, `.` for the root.
 abbrev pub directory_of : List ℕ → List ℕ
 directory_of path = relative (all_but_last (pieces path))
 
--- Why an item with a place is refused: it is a dataset, or has too many bytes.
-abbrev pub kind_fault : List ℕ → ItemKind → Option Fault
-kind_fault path Directory = None
-kind_fault path Nested = Some (OddKind path)
-kind_fault path (Working bytes) =
-    if nat_le (length bytes) git_file_limit then None else Some (TooLarge path (length bytes))
+-- Why an item with a place is refused: it is a dataset, or has more bytes than the file at its path
+-- may have.
+abbrev pub kind_fault : (List ℕ → ℕ) → List ℕ → ItemKind → Option Fault
+kind_fault limits path Directory = None
+kind_fault limits path Nested = Some (OddKind path)
+kind_fault limits path (Working bytes) =
+    if nat_le (length bytes) (limits path) then None else Some (TooLarge path (length bytes))
 
 -- Why an item is refused: its path may be too long for a place.
-abbrev pub item_fault : Names → List ℕ → ItemKind → Option Fault
-item_fault root path kind =
-    if is_text (joined root path) then kind_fault path kind
+abbrev pub item_fault : (List ℕ → ℕ) → Names → List ℕ → ItemKind → Option Fault
+item_fault limits root path kind =
+    if is_text (joined root path) then kind_fault limits path kind
     else Some (TooLarge (directory_of path) (length (joined root path)))
 
 -- The first refusal along some items, of which so many were met before.
-abbrev pub fault_along : Names → ℕ → List (List ℕ × ItemKind) → Option Fault
-fault_along root count [] = None
-fault_along root count (item ∷ rest) =
+abbrev pub fault_along : (List ℕ → ℕ) → Names → ℕ → List (List ℕ × ItemKind) → Option Fault
+fault_along limits root count [] = None
+fault_along limits root count (item ∷ rest) =
     if nat_le item_limit count then Some (TooLarge (codes ".") 100001)
-    else or_next (item_fault root item.0 item.1) (fault_along root (count + 1) rest)
+    else or_next (item_fault limits root item.0 item.1) (fault_along limits root (count + 1) rest)
 
--- Why the walk over what lies below a root is refused.
-abbrev pub walk_fault : Names → Ground → Option Fault
-walk_fault root g = fault_along root 0 (entries (items root g))
+-- Why the walk over what lies below a root is refused, where the file at a path may have so many
+-- bytes.
+abbrev pub walk_fault : (List ℕ → ℕ) → Names → Ground → Option Fault
+walk_fault limits root g = fault_along limits root 0 (entries (items root g))
+
+-- A working file: its path below the root, and its bytes.
+abbrev pub WorkFile : Type 0
+WorkFile = List ℕ × List ℕ
+
+-- The path of a working file.
+abbrev pub path_in : WorkFile → List ℕ
+path_in file = file.0
 
 -- The working files among some items, by path and bytes.
-abbrev pub files_among : List (List ℕ × ItemKind) → List (List ℕ × List ℕ)
+abbrev pub files_among : List (List ℕ × ItemKind) → List WorkFile
 files_among [] = []
 files_among ((path, Directory) ∷ rest) = files_among rest
 files_among ((path, Nested) ∷ rest) = files_among rest
 files_among ((path, Working bytes) ∷ rest) = (path, bytes) ∷ files_among rest
 
 -- The working files below a root, in byte order of their paths.
-abbrev pub working : Names → Ground → List (List ℕ × List ℕ)
+abbrev pub working : Names → Ground → List WorkFile
 working root g = files_among (entries (items root g))

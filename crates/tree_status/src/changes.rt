@@ -6,25 +6,20 @@ ghost use Rattle.std.specs.Ordering.{nat_cmp};
 ghost use Rattle.std.specs.Cmp.Lexicographic.{slice_cmp};
 ghost use Rattle.std.specs.BTreeMap.{IsOrdered};
 ghost use Rattle.tree_status.specs.declared.found.WorkingFile.{WorkingFile};
-ghost use Rattle.tree_status.specs.Changes.{WorkFile, added, changes, deleted, is_changed, leaf_at};
-ghost use Rattle.tree_status.specs.Changes.{new_entries, was_exec};
-ghost use Rattle.tree_status.specs.Changed.{AreOrdered, ArePaths, HasPaths, added_state, as_files};
-ghost use Rattle.tree_status.specs.Changed.{file_entry, is_gone, is_new, kept_changes, paths_of};
-ghost use Rattle.tree_status.specs.Changed.{shown, state_at, with_states};
-ghost use Rattle.tree_status.specs.declared.states.State.TheVariants.{Deleted};
+ghost use Rattle.tree_status.specs.Changes.{AreOrdered, ArePaths, added, added_state, changes, deleted, is_changed};
+ghost use Rattle.tree_status.specs.Changes.{is_gone, is_new, is_other, lacking, new_entries, new_entry, paths_of};
+ghost use Rattle.tree_status.specs.Changes.{was_exec};
+ghost use Rattle.tree_status.specs.Changed.{HasPaths, kept_changes, shown, state_at, with_states};
+ghost use Rattle.tree_status.specs.Keeping.{leaf_at};
+ghost use Rattle.tree_status.specs.declared.states.State.TheVariants.{Deleted, Modified};
 
 use crate::found::WorkingFile;
+use crate::keeping::leaf_at;
 use crate::states::{Change, State};
 use crate::visiting::text;
 use snapshot::{Entry, Leaf, Snapshot};
 use std::alloc::{AllocError, Global};
 use std::collections::{BTreeMap, BTreeSet};
-
-fn leaf_at(old: &Snapshot, path: &str) -> Option<Leaf>
-    ensures { result ≡ leaf_at path.now old.now }
-{
-    old.find(path).copied()
-}
 
 fn is_new(old: &Snapshot, file: &WorkingFile) -> bool
     ensures { result ≡ is_new old.now file.now }
@@ -41,8 +36,8 @@ pub fn added_files<'a>(
     old: &Snapshot,
     files: &'a [WorkingFile],
 ) -> Result<Vec<&'a WorkingFile>, AllocError>
-    ensures { (work : List WorkFile) → files.now ≡ as_files work → IfOk result
-        (λ list. shown list.items ≡ as_files (added old.now work)) }
+    ensures { IfOk result
+        (λ list. shown list.items ≡ added old.now files.now) }
 {
     let mut list = Vec::new(alloc);
     for file in files {
@@ -77,8 +72,8 @@ pub fn deleted_entries<'a>(
     old: &'a Snapshot,
     files: &[WorkingFile],
 ) -> Result<Vec<&'a Entry>, AllocError>
-    ensures { (work : List WorkFile) → files.now ≡ as_files work → IfOk result
-        (λ list. shown list.items ≡ deleted old.now work) }
+    ensures { IfOk result
+        (λ list. shown list.items ≡ deleted old.now files.now) }
 {
     let paths = path_set(alloc, files)?;
     let mut list = Vec::new(alloc);
@@ -90,15 +85,40 @@ pub fn deleted_entries<'a>(
     Ok(list)
 }
 
-/// Whether anything has changed.
-pub fn is_changed(alloc: Global, old: &Snapshot, files: &[WorkingFile]) -> Result<bool, AllocError>
-    ensures { (work : List WorkFile) → files.now ≡ as_files work → IfOk result
-        (λ changed. changed ≡ is_changed old.now work) }
+// The working files whose contents the repository lacks.
+fn lacking_files<'a>(
+    alloc: Global,
+    files: &'a [WorkingFile],
+) -> Result<Vec<&'a WorkingFile>, AllocError>
+    ensures { IfOk result (λ list. shown list.items ≡ lacking files.now) }
+{
+    let mut list = Vec::new(alloc);
+    for file in files {
+        if file.lacks {
+            list.push(file)?;
+        }
+    }
+    Ok(list)
+}
+
+/// Whether the new snapshot is another than the old one.
+pub fn is_other(alloc: Global, old: &Snapshot, files: &[WorkingFile]) -> Result<bool, AllocError>
+    ensures { IfOk result (λ other. other ≡ is_other old.now files.now) }
 {
     if !added_files(alloc, old, files)?.is_empty() {
         return Ok(true);
     }
     Ok(!deleted_entries(alloc, old, files)?.is_empty())
+}
+
+/// Whether anything has changed: the snapshot, or a content is lacked.
+pub fn is_changed(alloc: Global, old: &Snapshot, files: &[WorkingFile]) -> Result<bool, AllocError>
+    ensures { IfOk result (λ changed. changed ≡ is_changed old.now files.now) }
+{
+    if is_other(alloc, old, files)? {
+        return Ok(true);
+    }
+    Ok(!lacking_files(alloc, files)?.is_empty())
 }
 
 // The state of a file that is added, by its path.
@@ -123,6 +143,20 @@ fn keep_added<'a>(
     for file in files {
         let path = file.path.as_str();
         states.insert(path, added_state(old, path))?;
+    }
+    Ok(())
+}
+
+// Keeps the states of the files whose contents are lacked.
+fn keep_lacking<'a>(
+    states: &mut BTreeMap<&'a str, State>,
+    files: &[&'a WorkingFile],
+) -> Result<(), AllocError>
+    ensures { OnOk result ((at : List ℕ) → state_at states.new at
+        ≡ with_states (λ _. Modified) (paths_of (shown files.now)) at (state_at states.old at)) }
+{
+    for file in files {
+        states.insert(file.path.as_str(), State::Modified)?;
     }
     Ok(())
 }
@@ -160,14 +194,16 @@ pub fn changes_of(
     old: &Snapshot,
     files: &[WorkingFile],
 ) -> Result<Vec<Change>, AllocError>
-    ensures changes { (work : List WorkFile) → files.now ≡ as_files work → IfOk result
-        (λ list. list.items ≡ changes old.now work) }
+    ensures changes { IfOk result
+        (λ list. list.items ≡ changes old.now files.now) }
     ensures ordered { IfOk result (λ list. AreOrdered list.items) }
 {
     let added = added_files(alloc, old, files)?;
+    let lacking = lacking_files(alloc, files)?;
     let deleted = deleted_entries(alloc, old, files)?;
     let mut states = BTreeMap::new(alloc);
     keep_deleted(&mut states, deleted.as_slice())?;
+    keep_lacking(&mut states, lacking.as_slice())?;
     keep_added(&mut states, old, added.as_slice())?;
     in_order(alloc, states)
 }
@@ -183,7 +219,7 @@ fn was_exec(old: &Snapshot, path: &str) -> bool
 
 // A working file in the new snapshot.
 fn new_entry(alloc: Global, old: &Snapshot, file: &WorkingFile) -> Result<Entry, AllocError>
-    ensures { IfOk result (λ entry. entry ≡ file_entry old.now file.now) }
+    ensures { IfOk result (λ entry. entry ≡ new_entry old.now file.now) }
 {
     let path = text(alloc, file.path.as_str())?;
     let id = file.id;
@@ -200,9 +236,9 @@ pub fn new_snapshot(
     old: &Snapshot,
     files: &[WorkingFile],
 ) -> Result<Snapshot, AllocError>
-    requires { ArePaths files.now }
-    ensures { (work : List WorkFile) → files.now ≡ as_files work → IfOk result
-        (λ new. new ≡ new_entries old.now work) }
+    requires { ArePaths (paths_of files.now) }
+    ensures { IfOk result
+        (λ new. new ≡ new_entries old.now files.now) }
 {
     let mut entries = Vec::new(alloc);
     for file in files {

@@ -1,7 +1,7 @@
 // `status`: what has changed in the working files since HEAD's commit, as a text.
-ghost use Rattle.std.specs.Prelude.{◌≡◌, ◌++◌, IfOk, OnOk};
+ghost use Rattle.std.specs.Prelude.{◌≡◌, ◌++◌, false, IfOk, OnOk};
 ghost use Rattle.acts.specs.All.{Reads};
-ghost use Rattle.tree_status.specs.Changed.{AreOrdered};
+ghost use Rattle.tree_status.specs.Changes.{AreOrdered};
 ghost use Rattle.tree_status.specs.Looks.{IsUnread};
 ghost use Rattle.tree_status.specs.Status.{IsStatus, IsStatusText, clean_text, state_text};
 ghost use Rattle.tree_status.specs.Status.{status_line, status_text};
@@ -61,15 +61,15 @@ fn text_of(alloc: Global, changes: &[Change]) -> Result<Vec<u8>, AllocError>
 /// The status of a dataset: per path that differs from HEAD's commit, in byte order, `untracked`, `modified` or `deleted`,
 /// right in nine places, then `: PATH (file)` and a newline; `nothing to save, working tree clean` where none does.
 ///
-/// Refuses what HEAD, its branch, the commit or the trees are refused for; UnsupportedMode of a pin; what the working
-/// files are refused for. Every working file is read.
+/// Refuses what HEAD, its branch, the commit or the trees are refused for; UnsupportedMode of a pin; what a blob that
+/// may be a pointer is refused for; what the working files are refused for. Every working file is read.
 pub fn status<F: Files>(alloc: Global, files: &mut F, root: &Place) -> Result<Vec<u8>, Trouble>
     ensures reads { Reads (λ fault. MayView F.tells root.now fault) F.tells (λ g text. IsStatus root.now g text.items)
-        (λ g fault. IsUnread root.now g fault) (F.drive files.old) (F.drive files.new) result }
+        (λ g fault. IsUnread root.now false g fault) (F.drive files.old) (F.drive files.new) result }
     ensures form { IfOk result (λ text. IsStatusText text.items) }
 {
     let repo = repo(alloc, root)?;
-    let view = read_view(alloc, files, root, &repo)?;
-    let changes = changes_of(alloc, &view.old, view.files.as_slice())?;
+    let view = read_view(alloc, files, root, &repo, false)?;
+    let changes = changes_of(alloc, view.by.old(), view.files.as_slice())?;
     Ok(text_of(alloc, changes.as_slice())?)
 }

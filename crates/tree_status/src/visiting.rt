@@ -5,20 +5,18 @@ ghost use Rattle.places.specs.All.{IsPlace, is_text, joined, names_of, file_at};
 ghost use Rattle.file_store.specs.All.{kind_at};
 ghost use Rattle.acts.specs.All.{Reads};
 ghost use Rattle.faults.specs.declared.faults.Fault.TheVariants.{OddKind, TooLarge, Dirty};
-ghost use Rattle.tree_status.specs.Working.{directory_of, is_nested, item_at, fault_along, git_file_limit};
+ghost use Rattle.tree_status.specs.Keeping.{limit_by};
+ghost use Rattle.tree_status.specs.Working.{directory_of, is_nested, item_at, fault_along};
 ghost use Rattle.tree_status.specs.Walks.{MayMeet, MayFile, MayNest, MayTake, Went, one_of};
 ghost use Rattle.tree_status.specs.Walks.{AddsFile, Takes, IsWorkingPath, RefusesItem, file_fault};
 
-use crate::found::{Found, WorkingFile};
+use crate::found::Found;
+use crate::keeping::Keeping;
 use faults::{Fault, Trouble};
 use file_store::{Files, Kind, Place, PlaceErr};
-use git_objects::blob_id;
 use places::Text;
 use repository::ITEM_LIMIT;
 use std::alloc::{AllocError, Global};
-
-/// How many bytes a working file may have.
-const GIT_FILE_LIMIT: u64 = 16_777_216;
 
 /// A copy of a text.
 pub(crate) fn text(alloc: Global, text: &str) -> Result<Text, AllocError>
@@ -69,7 +67,8 @@ fn odd_kind(alloc: Global, path: &str) -> Result<Fault, AllocError>
     Ok(Fault::OddKind { path })
 }
 
-fn gone(alloc: Global, path: &str) -> Result<Fault, AllocError>
+/// The refusal of a file that is gone.
+pub(crate) fn gone(alloc: Global, path: &str) -> Result<Fault, AllocError>
     ensures { IfOk result (λ fault. fault ≡ Dirty path.now) }
 {
     let path = text(alloc, path)?;
@@ -92,51 +91,27 @@ pub(crate) fn place_below(
     }
 }
 
-// The bytes of a working file. Its size is asked first, so that no more is read than a file may have.
-fn file_bytes<F: Files>(
-    alloc: Global,
-    files: &mut F,
-    place: &Place,
-    path: &str,
-) -> Result<Vec<u8>, Trouble>
-    ensures { Reads (λ fault. MayFile path.now fault) F.tells
-        (λ g bytes. (file_at g place.now ≡ Some bytes.items) × (length bytes.items ≤ git_file_limit))
-        (λ g fault. file_fault path.now (file_at g place.now) ≡ Some fault)
-        (F.drive files.old) (F.drive files.new) result }
-{
-    let Some(size) = files.size(alloc, place)? else {
-        return Err(Trouble::Refused(gone(alloc, path)?));
-    };
-    if size > GIT_FILE_LIMIT {
-        return Err(Trouble::Refused(too_large(alloc, path, size)?));
-    }
-    let Some(bytes) = files.read(alloc, place)? else {
-        return Err(Trouble::Refused(gone(alloc, path)?));
-    };
-    let size = bytes.len() as u64;
-    if size > GIT_FILE_LIMIT {
-        return Err(Trouble::Refused(too_large(alloc, path, size)?));
-    }
-    Ok(bytes)
-}
-
-// Adds a working file.
+// Adds a working file, whose size is asked.
 fn add_file<F: Files>(
     alloc: Global,
     files: &mut F,
     place: &Place,
     path: &str,
+    by: &Keeping,
     found: &mut Found,
 ) -> Result<(), Trouble>
     ensures { Reads (λ fault. MayFile path.now fault) F.tells
-        (λ g _. AddsFile path.now (file_at g place.now) found.old found.new)
-        (λ g fault. file_fault path.now (file_at g place.now) ≡ Some fault)
+        (λ g _. AddsFile (limit_by by.now) path.now (file_at g place.now) found.old found.new)
+        (λ g fault. file_fault (limit_by by.now) path.now (file_at g place.now) ≡ Some fault)
         (F.drive files.old) (F.drive files.new) result }
 {
-    let bytes = file_bytes(alloc, files, place, path)?;
-    let id = blob_id(bytes.as_slice());
-    let path = text(alloc, path)?;
-    found.files.push(WorkingFile { path, id })?;
+    let Some(size) = files.size(alloc, place)? else {
+        return Err(Trouble::Refused(gone(alloc, path)?));
+    };
+    if size > by.limit(path) {
+        return Err(Trouble::Refused(too_large(alloc, path, size)?));
+    }
+    found.paths.push(text(alloc, path)?)?;
     Ok(())
 }
 
@@ -167,34 +142,36 @@ fn take<F: Files>(
     place: &Place,
     path: &str,
     kind: Kind,
+    by: &Keeping,
     found: &mut Found,
 ) -> Result<(), Trouble>
     ensures { Reads (λ fault. MayTake path.now fault) F.tells
-        (λ g _. kind ≡ kind_at g place.now → Takes path.now (item_at g place.now) found.old found.new)
-        (λ g fault. kind ≡ kind_at g place.now → RefusesItem path.now (item_at g place.now) fault)
+        (λ g _. kind ≡ kind_at g place.now → Takes (limit_by by.now) path.now (item_at g place.now) found.old found.new)
+        (λ g fault. kind ≡ kind_at g place.now → RefusesItem (limit_by by.now) path.now (item_at g place.now) fault)
         (F.drive files.old) (F.drive files.new) result }
 {
     match kind {
-        Kind::File => add_file(alloc, files, place, path, found),
+        Kind::File => add_file(alloc, files, place, path, by, found),
         Kind::Dir => check_directory(alloc, files, place, path),
         Kind::Absent | Kind::Other => Err(Trouble::Refused(odd_kind(alloc, path)?)),
     }
 }
 
-/// Takes the item at a path, of this kind by its directory's listing: counts it, and adds it where it is a file.
+/// Takes the item at a path, of this kind by its directory's listing: counts it, and adds its path where it is a file.
 pub(crate) fn visit<F: Files>(
     alloc: Global,
     files: &mut F,
     root: &Place,
     path: &str,
     kind: Kind,
+    by: &Keeping,
     found: &mut Found,
 ) -> Result<(), Trouble>
     requires { IsWorkingPath path.now }
     ensures { Reads (λ fault. MayMeet root.now fault) F.tells
-        (λ g _. kind ≡ kind_at g (root.now ++ names_of path.now) → Went root.now
+        (λ g _. kind ≡ kind_at g (root.now ++ names_of path.now) → Went (limit_by by.now) root.now
         (one_of path.now (item_at g (root.now ++ names_of path.now))) found.old found.new)
-        (λ g fault. kind ≡ kind_at g (root.now ++ names_of path.now) → fault_along root.now found.old.count
+        (λ g fault. kind ≡ kind_at g (root.now ++ names_of path.now) → fault_along (limit_by by.now) root.now found.old.count
         (one_of path.now (item_at g (root.now ++ names_of path.now))) ≡ Some fault)
         (F.drive files.old) (F.drive files.new) result }
 {
@@ -208,5 +185,5 @@ pub(crate) fn visit<F: Files>(
         return Err(Trouble::Refused(too_long(alloc, root, path)?));
     };
     found.count += 1;
-    take(alloc, files, &place, path, kind, found)
+    take(alloc, files, &place, path, kind, by, found)
 }

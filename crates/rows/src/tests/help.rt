@@ -9,12 +9,12 @@ const ROWS: [Row<'static>; 3] = [
         code: 0,
         out: "usage: datalad COMMAND [OPTION..] [OPERAND..]\n\
               \n\
-              \x20 create DIR                               make a dataset at DIR\n\
-              \x20 save [-d DIR] [-m MSG|-F FILE] --to-git  commit the working files\n\
-              \x20 status [-d DIR]                          list what a save would commit\n\
-              \x20 log [-d DIR] [REVISION]                  list the commits of REVISION, or of HEAD\n\
-              \x20 --help                                   print this text\n\
-              \x20 --version                                print the version\n\
+              \x20 create DIR                                 make a dataset at DIR\n\
+              \x20 save [-d DIR] [-m MSG|-F FILE] [--to-git]  commit the working files\n\
+              \x20 status [-d DIR]                            list what a save would commit\n\
+              \x20 log [-d DIR] [REVISION]                    list the commits of REVISION or HEAD\n\
+              \x20 --help                                     print this text\n\
+              \x20 --version                                  print the version\n\
               \n\
               status: 0 done, 1 refused, 2 wrong words, 3 no memory, 4 a device failed\n\
               pages: README.md and docs/ of the source\n",

@@ -32,7 +32,7 @@ fn words_without_a_reading(rt: HostRuntime) {
         ("statu", "datalad: usage: word 0\n"),
         ("get", "datalad: usage: word 1\n"),
         ("get x", "datalad: usage: word 0\n"),
-        ("save -m a", "datalad: usage: word 0\n"),
+        ("save -r -m a", "datalad: usage: word 0\n"),
         ("save -m a -m b", "datalad: usage: word 3\n"),
         ("log a b", "datalad: usage: word 2\n"),
         ("create", "datalad: usage: word 1\n"),

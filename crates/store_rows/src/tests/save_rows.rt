@@ -26,7 +26,11 @@ struct Saved<'a> {
 
 fn wish(rt: &impl Abort, alloc: Global, message: &str, moment: u64) -> SaveWish {
     let message = Bytes::new(bytes(rt, alloc, message.as_bytes()));
-    SaveWish { message, moment }
+    SaveWish {
+        message,
+        to_git: true,
+        moment,
+    }
 }
 
 // The dataset `/w/ds`, made at 1700000000.

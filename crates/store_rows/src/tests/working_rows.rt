@@ -2,9 +2,10 @@
 use super::common::{File, fault, holds, is_size, is_text, memory_of, place};
 use faults::Fault;
 use file_store::MemFiles;
+use snapshot::Snapshot;
 use std::alloc::Global;
 use std::process::Abort;
-use tree_status::{WorkingFile, working_files};
+use tree_status::{Keeping, WorkingFile, keep_files, repo, working_files};
 
 const ONE: &str = "5626abf0f72e58d7a153368ba57db4c673c0e171";
 
@@ -28,9 +29,19 @@ fn is_file(rt: &impl Abort, file: &WorkingFile, row: &(&str, &str)) {
     holds(rt, file.id.to_hex().as_slice() == row.1.as_bytes(), row.0);
 }
 
+// By an empty snapshot, where git keeps new files.
+fn by_git(alloc: Global) -> Keeping {
+    Keeping::new(Snapshot::of_ordered(Vec::new(alloc)), Vec::new(alloc), true)
+}
+
 // The walk finds these files, by path and id.
 fn finds(rt: &impl Abort, alloc: Global, files: &mut MemFiles, root: &str, rows: &[(&str, &str)]) {
-    let found = working_files(alloc, files, &place(rt, alloc, root)).expect(rt, "working files");
+    let root = place(rt, alloc, root);
+    let repo = repo(alloc, &root).expect(rt, "a repository");
+    let by = by_git(alloc);
+    let paths = working_files(alloc, files, &root, &by).expect(rt, "paths");
+    let found = keep_files(alloc, files, &root, &repo, &by, paths.as_slice());
+    let found = found.expect(rt, "working files");
     is_size(rt, found.len(), rows.len());
     for (file, row) in found.iter().zip(rows) {
         is_file(rt, file, row);
@@ -38,7 +49,11 @@ fn finds(rt: &impl Abort, alloc: Global, files: &mut MemFiles, root: &str, rows:
 }
 
 fn refusal(rt: &impl Abort, alloc: Global, files: &mut MemFiles) -> Fault {
-    fault(rt, working_files(alloc, files, &place(rt, alloc, "/w")))
+    let by = by_git(alloc);
+    fault(
+        rt,
+        working_files(alloc, files, &place(rt, alloc, "/w"), &by),
+    )
 }
 
 #[test]

@@ -20,7 +20,7 @@ returns-in_err-message-clause-acts g c =
     as_exits c.from_residual-in_err-message.ensures.1
     (as_after reads.later (λ t. (reads.told t).same)
     (as_unread c.in_err-message.field-0.0 (λ fault h. inr h)
-    (λ t fault h. act_by at source c.args.moment c.in_ok-root.root (Err fault) (present (d c.find_root.new.files)) _ (found_later at c.in_ok-root.root (d c.args.files.now) (d c.find_root.new.files) (reads.told t).same (reads.told t).answer) h refl)
+    (λ t fault h. act_by at source c.args.to_git c.args.moment c.in_ok-root.root (Err fault) (present (d c.find_root.new.files)) _ (found_later at c.in_ok-root.root (d c.args.files.now) (d c.find_root.new.files) (reads.told t).same (reads.told t).answer) h refl)
     c.in_err-message.ensures))
 
 pub returns-in_err-save-clause-acts : goal.returns-in_err-save-clause-acts
@@ -33,7 +33,7 @@ returns-in_err-save-clause-acts g c =
     as_exits c.from_residual-in_err-save.ensures.1
     (as_after reads.later (λ t. (reads.told t).same)
     (as_after more.later (λ t. (more.told t).same)
-    (save_failed at source c.args.moment c.in_ok-root.root c.in_ok-message.message c.in_ok-root.ensures.above g.F.Files.tells c.args.lines.now.items c.save.new.lines.items (d c.find_message.new.files) (d c.save.new.files)
+    (save_failed at source c.args.to_git c.args.moment c.in_ok-root.root c.in_ok-message.message c.in_ok-root.ensures.above g.F.Files.tells c.args.lines.now.items c.save.new.lines.items (d c.find_message.new.files) (d c.save.new.files)
     (λ t. found_later at c.in_ok-root.root (d c.find_root.new.files) (d c.find_message.new.files) (more.told t).same (found_later at c.in_ok-root.root (d c.args.files.now) (d c.find_root.new.files) (reads.told t).same (reads.told t).answer))
     (λ t. message_later source (Ok c.in_ok-message.message) (d c.find_root.new.files) (d c.find_message.new.files) (more.told t).same (more.told t).answer)
     c.in_err-save.field-0.0 c.in_err-save.ensures.acts)))
@@ -47,7 +47,7 @@ returns-clause-acts g c =
     let more = c.in_ok-message.ensures in
     as_after reads.later (λ t. (reads.told t).same)
     (as_after more.later (λ t. (more.told t).same)
-    (save_gave at source c.args.moment c.in_ok-root.root c.in_ok-message.message c.in_ok-root.ensures.above g.F.Files.tells c.args.lines.now.items c.save.new.lines.items (d c.find_message.new.files) (d c.save.new.files)
+    (save_gave at source c.args.to_git c.args.moment c.in_ok-root.root c.in_ok-message.message c.in_ok-root.ensures.above g.F.Files.tells c.args.lines.now.items c.save.new.lines.items (d c.find_message.new.files) (d c.save.new.files)
     (λ t. found_later at c.in_ok-root.root (d c.find_root.new.files) (d c.find_message.new.files) (more.told t).same (found_later at c.in_ok-root.root (d c.args.files.now) (d c.find_root.new.files) (reads.told t).same (reads.told t).answer))
     (λ t. message_later source (Ok c.in_ok-message.message) (d c.find_root.new.files) (d c.find_message.new.files) (more.told t).same (more.told t).answer)
     c.in_ok-save.field-0 c.no_text.result c.no_text.ensures c.in_ok-save.ensures.acts))

@@ -1,7 +1,7 @@
 use Rattle.std.proofs.Common.{ap, ◌∙◌}
 use Rattle.acts.proofs.Reading.{read_exits}
-use Rattle.tree_status.specs.All.{shown}
-use Rattle.recursive_save.proofs.PlanFacts.{Picked, config_fails, blobs_fail, plan_ends}
+use Rattle.tree_status.specs.All.{added, shown}
+use Rattle.recursive_save.proofs.PlanFacts.{config_fails, blobs_fail, plan_ends}
 use Rattle.recursive_save.proofs.planning.plan.Goals as goal
 
 pub returns-in_err-config-clause-reads : goal.returns-in_err-config-clause-reads
@@ -10,16 +10,16 @@ returns-in_err-config-clause-reads g c =
 
 pub returns-in_err-blobs-clause-reads : goal.returns-in_err-blobs-clause-reads
 returns-in_err-blobs-clause-reads g c =
+    let view = c.args.view.now in
     let files = shown c.as_slice-2.result.now in
-    let picked : Picked g.F.Files.tells c.args.root.now c.args.wish.now c.args.view.now files =
-    λ work e. ap shown c.as_slice-2.ensures.value ∙ c.in_ok-added.ensures work (c.as_slice.ensures.value ∙ e) in
+    let picked = ap shown c.as_slice-2.ensures.value ∙ c.in_ok-added.ensures ∙ (λ i. added (c.old.ensures.value i) (c.as_slice.ensures.value i)) in
     read_exits c.from_residual-in_err-blobs.ensures.1
-    (blobs_fail g.F.Files.tells c.args.root.now c.args.wish.now c.args.view.now files c.requires.looked c.in_ok-config.ensures.reads picked c.in_err-blobs.ensures)
+    (blobs_fail g.F.Files.tells c.args.root.now c.args.wish.now view files picked c.requires.looked c.in_ok-config.ensures.reads c.in_err-blobs.ensures)
 
 pub returns-clause-reads : goal.returns-clause-reads
 returns-clause-reads g c =
+    let view = c.args.view.now in
     let files = shown c.as_slice-2.result.now in
-    let picked : Picked g.F.Files.tells c.args.root.now c.args.wish.now c.args.view.now files =
-    λ work e. ap shown c.as_slice-2.ensures.value ∙ c.in_ok-added.ensures work (c.as_slice.ensures.value ∙ e) in
-    plan_ends g.F.Files.tells c.args.root.now c.args.wish.now c.args.view.now files c.requires.looked c.in_ok-config.ensures.reads picked c.in_ok-blobs.ensures
-    (g.met.F.Files.grounded c.args.files.now) c.complete.result c.complete.ensures.plan c.complete.ensures.fails
+    let picked = ap shown c.as_slice-2.ensures.value ∙ c.in_ok-added.ensures ∙ (λ i. added (c.old.ensures.value i) (c.as_slice.ensures.value i)) in
+    plan_ends g.F.Files.tells c.args.root.now c.args.wish.now view files picked c.requires.looked c.in_ok-config.ensures.reads c.in_ok-blobs.ensures
+    (g.met.F.Files.grounded c.args.files.now) c.complete.result c.complete.ensures.plan c.complete.ensures.own c.complete.ensures.fails

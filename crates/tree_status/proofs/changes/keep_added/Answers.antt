@@ -2,7 +2,8 @@ use Rattle.std.proofs.Common.{◌∷◌, ◌++◌, [], ℕ, List, Some, cond, ma
 use Rattle.std.specs.Prelude.{bytes_eq}
 use Rattle.std.proofs.lemmas.Map.Text.{btree_map_updates_str}
 use Rattle.tree_status.specs.declared.found.WorkingFile.{WorkingFile}
-use Rattle.tree_status.specs.Changed.{added_state, shown, state_at, with_states}
+use Rattle.tree_status.specs.Changed.{shown, state_at, with_states}
+use Rattle.tree_status.specs.Changes.{added_state}
 use Rattle.tree_status.specs.declared.states.State.{State}
 use Rattle.tree_status.proofs.ChangedFiles.{shown_more}
 use Rattle.tree_status.proofs.ChangedStates.{states_more}

@@ -1,5 +1,6 @@
 use Rattle.std.proofs.Common.{◌≡◌, ℕ, List, take}
-use Rattle.tree_status.specs.Changed.{added_state, paths_of, shown, state_at, with_states}
+use Rattle.tree_status.specs.Changed.{shown, state_at, with_states}
+use Rattle.tree_status.specs.Changes.{added_state, paths_of}
 use Rattle.tree_status.proofs.changes.keep_added.Given as goal
 
 abbrev pub invariant-loop-file : goal.invariant-loop-file

@@ -1,5 +1,5 @@
 use Rattle.std.proofs.Common.{◌∷◌, ◌++◌, [], ℕ, List, take, ap, ◌∙◌, sym, arith}
-use Rattle.tree_status.specs.Changed.{is_among, paths_of}
+use Rattle.tree_status.specs.Changes.{is_among, paths_of}
 use Rattle.tree_status.proofs.ChangedFiles.{paths_more}
 use Rattle.tree_status.proofs.ChangedStates.{set_more}
 use Rattle.tree_status.proofs.changes.path_set.Goals as goal

@@ -1,6 +1,7 @@
 use Rattle.std.proofs.Common.{◌≡◌, ◌+◌, ◌-◌, ◌*◌, length, take}
 use Rattle.std.specs.Prelude.{IsTrue}
 use Rattle.file_store.specs.All.{present}
+use Rattle.tree_status.specs.Keeping.{limit_by}
 use Rattle.tree_status.specs.Working.{items}
 use Rattle.tree_status.specs.Walks.{IsAt, Went}
 use Rattle.tree_status.proofs.Parts.{parts}
@@ -21,5 +22,5 @@ invariant-walk-loop-task g l =
       later : (drive l.files).faults ≡ (drive l.fn.files).faults;
       same : IsTrue g.F.Files.tells → (drive l.files).history ≡ (drive l.fn.files).history;
       went : IsTrue g.F.Files.tells → IsAt l.root l.place l.front
-          → Went l.root (parts l.front (take l.task-index l.task-items) (items l.root (present (drive l.fn.files)))) l.fn.found l.found;
+          → Went (limit_by l.by) l.root (parts l.front (take l.task-index l.task-items) (items l.root (present (drive l.fn.files)))) l.fn.found l.found;
     }
