@@ -114,8 +114,8 @@ pub record AtEachMoment (command : Command) (act : Act (List ℕ)) (old new : Dr
       (WasOpen old.history.latest) (present old) x) old.history new.history
 
 -- From a sound ground and a settled disk, at every moment what stands and what a crash leaves is
--- sound, has the heads of one of the act's grounds, and has lost no object; and when the act is
--- done the ground is sound and the disk settled again.
+-- sound, has the heads of one of the act's grounds, and has lost no object and no content that
+-- matched its key; and when the act is done the ground is sound and the disk settled again.
 abbrev pub KeepsSound : Command → Act (List ℕ) → Drive → Drive → Type 0
 KeepsSound command act old new =
     CanKeep command → Sound (present old) → IsSettled old.history.latest → StaysSound act old new

@@ -15,17 +15,17 @@ use Rattle.repository.specs.All.{object_place}
 use Rattle.repository.proofs.Holds.{held_is}
 use Rattle.object_store.specs.All.{with_objects}
 use Rattle.object_store.specs.declared.objects.NewObject.{NewObject}
-use Rattle.annex_store.specs.All.{log_names}
+use Rattle.annex_store.specs.All.{content_names, content_place, log_names}
 use Rattle.dataset.specs.Watched.{IsRoot, IsWatched}
 use Rattle.dataset.specs.Whole.{Has, IsWhole}
-use Rattle.dataset.specs.Sound.{HasSoundObjects, IsSoundAt, Sound, HoldsAll}
+use Rattle.dataset.specs.Sound.{HasSoundObjects, IsSoundAt, Sound, HoldsAll, HoldsContents}
 use Rattle.dataset.specs.Rounds.{LiesWatched, IsIntact, KeepsSound, AllKeepSound, CanPut}
 use Rattle.dataset.specs.Births.{bare_round, birth_rounds, IsBirth, IsBorn}
 use Rattle.dataset.proofs.Splits.{head_names, is_head_name, AreBare, no_head_at, split_once, is_watched_name, watched_at, head_is_watched, head_watched, object_watched, settings_watched, tmp_watched, branch_plain, branch_watched}
 use Rattle.repository.proofs.HeadTexts.{id_in-text}
 use Rattle.dataset.proofs.Heading.{now_named}
-use Rattle.dataset.proofs.KeyPlaces.{log_watched}
-use Rattle.dataset.proofs.Logs.{no_logs}
+use Rattle.dataset.proofs.KeyPlaces.{content_watched, is_annex_name, log_watched}
+use Rattle.dataset.proofs.Logs.{no_logs, stands_as}
 use Rattle.dataset.proofs.Wholes.{whole_stays, whole_is_id}
 use Rattle.dataset.proofs.Watching.{is_object_name, SameRest, head_as, grown, held_in, objects_as}
 use Rattle.dataset.proofs.Putting.{objects_keep, put_rest, put_objects, after_some}
@@ -35,12 +35,13 @@ abbrev is_first : List ℕ → Names → Bool
 is_first c [] = false
 is_first c (n ∷ ns) = bytes_eq n c
 
--- a watched place in the repository of a root
+-- a watched place in the repository of a root, neither an object's nor below `annex`
 record IsBareIn (root q : Names) : Type 0 where
   names : Names
   place : q ≡ repo_of root ++ names
   bare : AreBare names
   other : is_object_name names ≡ false
+  annex : is_annex_name names ≡ false
 
 -- ---- a round in the repository of a root that has no HEAD
 
@@ -58,6 +59,12 @@ module _ (root : Names) (round : Round) (g : Ground) (outside : IsRoot root) (un
         ⊎_elim (λ same. same)
         (λ is. let no : true ≡ false = ap is_object_name (split_once s root (object_names (hex_of id)) is.names apart outside is.place).1 ∙ is.other in absurd (cc no))
         (seen (object_place (repo_of s) id) (watched_at s (object_names (hex_of id)) apart (object_watched (hex_of id))))
+
+    contents_stay : HoldsContents g x
+    contents_stay s apart key stored =
+        stands_as (repo_of s) key g x (⊎_elim (λ same. same)
+        (λ is. let no : true ≡ false = ap is_annex_name (split_once s root (content_names key) is.names apart outside is.place).1 ∙ is.annex in absurd (cc no))
+        (seen (content_place (repo_of s) key) (watched_at s (content_names key) apart (content_watched key))))
 
     other_same : (s : Names) → IsRoot s → s ≢ root → SameRest s x g
     other_same s apart differ names watched object =
@@ -80,6 +87,7 @@ module _ (root : Names) (round : Round) (g : Ground) (outside : IsRoot root) (un
         | inr differ ↦ head_as s g x (other_same s apart differ)
       ]);
       held = λ s apart. held_in (repo_of s) g x (object_same s apart);
+      contents = contents_stay;
     }
 
   unborn_keeps : KeepsSound round g
@@ -146,9 +154,9 @@ module _ (root : Names) (objects : List NewObject) (work : Round) (settings name
 
   second_inside : (q : Names) → IsWatched q → (file_at second q ≡ file_at first q) ⊎ IsBareIn root q
   second_inside q watched = elim (cases_place q (settings_place root)) [
-    | inl is ↦ inr (record { names = codes "config" ∷ []; place = is; bare = record { inner = refl; other = refl }; other = refl })
+    | inl is ↦ inr (record { names = codes "config" ∷ []; place = is; bare = record { inner = refl; other = refl }; other = refl; annex = refl })
     | inr other ↦ elim (cases_place q (branch_place repo name)) [
-      | inl is ↦ inr (record { names = branch_names; place = is; bare = record { inner = branch_plain name birth.named; other = refl }; other = refl })
+      | inl is ↦ inr (record { names = branch_names; place = is; bare = record { inner = branch_plain name birth.named; other = refl }; other = refl; annex = refl })
       | inr apart ↦ inl (second_other q watched other apart)
     ]
   ]
@@ -171,6 +179,9 @@ module _ (root : Names) (objects : List NewObject) (work : Round) (settings name
 
   third_holds : HoldsAll second third
   third_holds s apart = held_in (repo_of s) second third (third_objects s apart)
+
+  third_contents : HoldsContents second third
+  third_contents s apart key is = stands_as (repo_of s) key second third (third_other s (content_names key) apart refl)
 
   -- a place that neither round wrote
   not_settings : (names : Names) → is_first (codes "config") names ≡ false → repo ++ names ≢ settings_place root
@@ -253,7 +264,7 @@ module _ (root : Names) (objects : List NewObject) (work : Round) (settings name
   ]
 
   all_keep : AllKeepSound (birth_rounds root objects work settings name id) g
-  all_keep = (objects_keep root objects g birth.outside can, (second_keeps, (one_keeps (head_place root) (ref_text name) second third_sound third_holds, tt)))
+  all_keep = (objects_keep root objects g birth.outside can, (second_keeps, (one_keeps (head_place root) (ref_text name) second third_sound third_holds third_contents, tt)))
 
 pub born : (root : Names) (objects : List NewObject) (work : Round) (settings name id : List ℕ) (g : Ground) → IsBirth root objects work settings name id g → IsBorn root objects work settings name id g
 born root objects work settings name id g birth = record { keep = all_keep root objects work settings name id g birth; head = head_now root objects work settings name id g birth }

@@ -12,9 +12,9 @@ use Rattle.file_store.proofs.Rounds.{with_file_same, with_file_other}
 use Rattle.repository.specs.All.{head_place, object_names, object_place, repo_of, settings_place}
 use Rattle.annex_store.specs.All.{IsLogIn, Stands, content_names, content_place, log_names, log_place}
 use Rattle.dataset.specs.Watched.{IsRoot, IsWatched}
-use Rattle.dataset.specs.Sound.{HasSoundLogs, HasUuid, HoldsAll, SameHeads, Sound}
+use Rattle.dataset.specs.Sound.{HasSoundLogs, HasUuid, HoldsAll, HoldsContents, SameHeads, Sound}
 use Rattle.dataset.specs.Rounds.{LiesWatched, IsIntact}
-use Rattle.dataset.specs.Contents.{ContentsKeep, EachChange, HoldsContents, IsContentPut, IsLogSet, LogsKeep}
+use Rattle.dataset.specs.Contents.{ContentsKeep, EachChange, IsContentPut, IsLogSet, LogsKeep}
 use Rattle.dataset.proofs.Splits.{is_watched_name, head_is_watched, object_watched, settings_watched, split_once, watched_at}
 use Rattle.dataset.proofs.KeyPlaces.{content_no_head, content_once, content_watched, is_annex_name, log_no_content, log_no_head, log_once, log_watched}
 use Rattle.dataset.proofs.Logs.{logs_as, stands_as, uuid_before}
@@ -70,8 +70,8 @@ module _ (root : Names) (P : Names → Option (List ℕ) → Type 0) (g x : Grou
       let at = sound s (ap is_some (sym (head_same s)) ∙ is) in
       moved s g x (core s at.outside) (holds s at.outside) (objects_as (repo_of s) g x (objects_same s at.outside) at.objects) (logs s at.outside at.logs) at
 
-  intact : ((s : Names) → IsRoot s → HasSoundLogs s g → HasSoundLogs s x) → (b : Ground) → Sound g → IsIntact g b x
-  intact logs b sound = record { sound = now_sound logs sound; heads = inl heads_same; held = holds }
+  intact : ((s : Names) → IsRoot s → HasSoundLogs s g → HasSoundLogs s x) → HoldsContents g x → (b : Ground) → Sound g → IsIntact g b x
+  intact logs contents b sound = record { sound = now_sound logs sound; heads = inl heads_same; held = holds; contents = contents }
 
 -- ---- what stands after a round, and on its way
 
@@ -119,7 +119,7 @@ module _ (root : Names) (g x : Ground) (outside : IsRoot root) (seen : Seen (IsC
   ]
 
   contents_stay : HoldsContents g x
-  contents_stay s key apart is stood = elim (seen (content_place (repo_of s) key) (watched_at s (content_names key) apart (content_watched key))) [
+  contents_stay s apart key is stood = elim (seen (content_place (repo_of s) key) (watched_at s (content_names key) apart (content_watched key))) [
     | inl same ↦ stands_as (repo_of s) key g x same stood
     | inr put ↦
         let one = content_once key put.key is put.stored (split_once s root (content_names key) (content_names put.key) apart outside put.place).1 in
@@ -127,13 +127,13 @@ module _ (root : Names) (g x : Ground) (outside : IsRoot root) (seen : Seen (IsC
   ]
 
   contents_logs : (s : Names) → IsRoot s → HasSoundLogs s g → HasSoundLogs s x
-  contents_logs s apart = logs_as s g x (settings_same root (IsContentPut root) g x outside (content_annexed root) seen s apart) (log_same s apart) (λ key is. contents_stay s key apart is)
+  contents_logs s apart = logs_as s g x (settings_same root (IsContentPut root) g x outside (content_annexed root) seen s apart) (log_same s apart) (contents_stay s apart)
 
 pub contents_keep : ContentsKeep
 contents_keep root round g outside puts = record {
   keep = λ sound x lies.
       let seen = on_way (IsContentPut root) round g x puts lies in
-      intact root (IsContentPut root) g x outside (content_annexed root) seen (contents_logs root g x outside seen) (changed round g) sound;
+      intact root (IsContentPut root) g x outside (content_annexed root) seen (contents_logs root g x outside seen) (contents_stay root g x outside seen) (changed round g) sound;
   has = λ x lies.
       let seen = on_way (IsContentPut root) round g x puts lies in
       record { heads = heads_same root (IsContentPut root) g x outside (content_annexed root) seen; contents = contents_stay root g x outside seen };
@@ -157,7 +157,7 @@ module _ (root : Names) (g x : Ground) (outside : IsRoot root) (seen : Seen (IsL
   ]
 
   logs_stay : HoldsContents g x
-  logs_stay s key apart is = stands_as (repo_of s) key g x (content_same s apart key)
+  logs_stay s apart key is = stands_as (repo_of s) key g x (content_same s apart key)
 
   log_seen : (s : Names) → IsRoot s → (key : PlainKey) → (file_at x (log_place (repo_of s) key) ≡ file_at g (log_place (repo_of s) key)) ⊎ IsLogSet root g (log_place (repo_of s) key) (file_at x (log_place (repo_of s) key))
   log_seen s apart key = seen (log_place (repo_of s) key) (watched_at s (log_names key) apart (log_watched key))
@@ -182,7 +182,7 @@ module _ (root : Names) (g x : Ground) (outside : IsRoot root) (seen : Seen (IsL
     ];
     honest = λ key uuid is own lines log present.
         let was = uuid_before s g x (settings_same root (IsLogSet root g) g x outside (log_annexed root g) seen s apart) uuid own in
-        logs_stay s key apart is (elim (log_seen s apart key) [
+        logs_stay s apart key is (elim (log_seen s apart key) [
           | inl same ↦ sound.honest key uuid is was lines (subst (λ (o : Option (List ℕ)). IsLogIn o lines) same log) present
           | inr set ↦ set_honest s apart key is uuid was lines log present set
         ]);
@@ -192,7 +192,7 @@ pub logs_keep : LogsKeep
 logs_keep root round g outside sets = record {
   keep = λ sound x lies.
       let seen = on_way (IsLogSet root g) round g x sets lies in
-      intact root (IsLogSet root g) g x outside (log_annexed root g) seen (set_logs root g x outside seen) (changed round g) sound;
+      intact root (IsLogSet root g) g x outside (log_annexed root g) seen (set_logs root g x outside seen) (logs_stay root g x outside seen) (changed round g) sound;
   has = λ x lies.
       let seen = on_way (IsLogSet root g) round g x sets lies in
       record { heads = heads_same root (IsLogSet root g) g x outside (log_annexed root g) seen; contents = logs_stay root g x outside seen };

@@ -11,7 +11,7 @@ use Rattle.repository.specs.All.{settings_place}
 use Rattle.annex_store.specs.All.{content_names, content_place, log_names, log_place}
 use Rattle.dataset.specs.Watched.{IsRoot}
 use Rattle.dataset.specs.Whole.{IsWhole}
-use Rattle.dataset.specs.Sound.{IsDataset, HasSoundHeads, HasSoundLogs, IsSoundAt, Sound, HoldsAll}
+use Rattle.dataset.specs.Sound.{IsDataset, HasSoundHeads, HasSoundLogs, IsSoundAt, Sound, HoldsAll, HoldsContents}
 use Rattle.dataset.specs.Rounds.{KeepsSound}
 use Rattle.dataset.specs.Leads.{lead_text, IsAtCommit, CanLead, IsLed, branch_round}
 use Rattle.dataset.proofs.Splits.{head_names, split_once, no_head_at, branch_plain}
@@ -49,6 +49,9 @@ module _ (root leads : Names) (text : List ℕ) (g : Ground) (outside : IsRoot r
   holds : HoldsAll g after
   holds s apart = held_in (repo_of s) g after (same_objects s apart)
 
+  contents_stay : HoldsContents g after
+  contents_stay s apart key is = stands_as (repo_of s) key g after (elsewhere (content_place (repo_of s) key) (not_there s (content_names key) apart refl))
+
   same_settings : file_at after (settings_place root) ≡ file_at g (settings_place root)
   same_settings = elsewhere (settings_place root) (not_there root (codes "config" ∷ []) outside refl)
 
@@ -56,7 +59,7 @@ module _ (root leads : Names) (text : List ℕ) (g : Ground) (outside : IsRoot r
   same_logs =
       logs_as root g after same_settings
       (λ key. elsewhere (log_place (repo_of root) key) (not_there root (log_names key) outside refl))
-      (λ key is. stands_as (repo_of root) key g after (elsewhere (content_place (repo_of root) key) (not_there root (content_names key) outside refl)))
+      (contents_stay root outside)
 
   -- a dataset with another head
   led_at : HasSoundHeads (repo_of root) after → IsSoundAt root g → IsSoundAt root after
@@ -139,7 +142,7 @@ module _ (root : Names) (head : Head) (g : Ground) (outside : IsRoot root) (can 
 
   pub is_led : IsLed root head g
   is_led = record {
-    keep = one_keeps (head_place root) text g (led_sound root head_names text g outside refl was_dataset heads_now) (holds root head_names text g outside refl);
+    keep = one_keeps (head_place root) text g (led_sound root head_names text g outside refl was_dataset heads_now) (holds root head_names text g outside refl) (contents_stay root head_names text g outside refl);
     leads = leads_now;
   }
 
@@ -231,4 +234,4 @@ module _ (root : Names) (name id : List ℕ) (g : Ground) (outside : IsRoot root
   ]
 
   pub branch_keeps : KeepsSound (branch_round root name id) g
-  branch_keeps = one_keeps branch (id_text id) g (led_sound root branch_names (id_text id) g outside refl was_there heads_put) (holds root branch_names (id_text id) g outside refl)
+  branch_keeps = one_keeps branch (id_text id) g (led_sound root branch_names (id_text id) g outside refl was_there heads_put) (holds root branch_names (id_text id) g outside refl) (contents_stay root branch_names (id_text id) g outside refl)

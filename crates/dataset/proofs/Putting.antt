@@ -13,13 +13,13 @@ use Rattle.object_store.specs.All.{place_in, object_text, objects_round, with_ob
 use Rattle.object_store.specs.declared.objects.NewObject.{NewObject}
 use Rattle.dataset.specs.Watched.{IsRoot, IsWatched}
 use Rattle.dataset.specs.Whole.{Has, AreWhole}
-use Rattle.dataset.specs.Sound.{IsDataset, HasSoundObjects, Sound, HoldsAll, SameHeads}
+use Rattle.dataset.specs.Sound.{IsDataset, HasSoundObjects, Sound, HoldsAll, HoldsContents, SameHeads}
 use Rattle.dataset.specs.Rounds.{LiesWatched, IsIntact, KeepsSound, IsPut, HasSome, CanPut}
 use Rattle.dataset.specs.Saves.{NoneCollide}
 use Rattle.dataset.proofs.Splits.{split_once, no_head, digits_once, watched_at, head_is_watched, object_watched}
 use Rattle.dataset.proofs.Ids.{oid_is_id}
 use Rattle.dataset.proofs.Wholes.{are_whole_stay}
-use Rattle.dataset.proofs.Watching.{is_object_name, SameRest, head_as, grown}
+use Rattle.dataset.proofs.Watching.{is_object_name, SameRest, contents_too, head_as, grown}
 use Rattle.dataset.proofs.Rows.{old_or_new, lies_watched}
 
 -- what stands at a place after the round
@@ -80,6 +80,9 @@ module _ (root : Names) (objects : List NewObject) (g x : Ground) (outside : IsR
   pub put_heads : SameHeads x g
   put_heads s apart = head_as s g x (put_rest s apart)
 
+  put_contents : HoldsContents g x
+  put_contents s apart = contents_too s g x (put_rest s apart)
+
   no_new_dataset : (s : Names) → IsDataset s x → IsDataset s g
   no_new_dataset s is = elim (seen (head_place s) (head_is_watched s)) [
     | inl same ↦ ap is_some (sym same) ∙ is
@@ -133,6 +136,7 @@ some_intact root objects g x outside can some sound b = record {
   sound = put_sound root objects g x outside can some sound;
   heads = inl (put_heads root objects g x outside can some);
   held = put_holds root objects g x outside can some;
+  contents = put_contents root objects g x outside can some;
 }
 
 pub objects_keep : (root : Names) (objects : List NewObject) (g : Ground) → IsRoot root → CanPut (repo_of root) objects g → KeepsSound (objects_round (repo_of root) objects) g

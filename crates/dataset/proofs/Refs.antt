@@ -47,7 +47,7 @@ only_by_tmp root place bytes zero r at =
 only_by_tmp root place bytes (suc i) r at = absurd (cc at)
 
 module _ (root place : Names) (bytes : List ℕ) (g : Ground) where
-  one_keeps : KeepsSound ((place, Some bytes) ∷ []) g → ActKeeps (puts_one (repo_of root) place bytes g) g
+  pub one_keeps : KeepsSound ((place, Some bytes) ∷ []) g → ActKeeps (puts_one (repo_of root) place bytes g) g
   one_keeps keeps = puts_keep (only (tmp_place (repo_of root) 0) place bytes) g (only_by_tmp root place bytes) keeps
 
   one_leaves : (puts_one (repo_of root) place bytes g).ending ≡ Gives tt → SameWatched (last_of (puts_one (repo_of root) place bytes g) g) (changed ((place, Some bytes) ∷ []) g)

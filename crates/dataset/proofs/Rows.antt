@@ -9,10 +9,10 @@ use Rattle.file_store.proofs.Course.{SameRounds}
 use Rattle.file_store.proofs.Rounds.{with_file_other}
 use Rattle.acts.specs.All.{Nothing}
 use Rattle.dataset.specs.Watched.{is_watched, IsWatched, SameWatched}
-use Rattle.dataset.specs.Sound.{Sound, HoldsAll, SameHeads}
+use Rattle.dataset.specs.Sound.{Sound, HoldsAll, HoldsContents, SameHeads}
 use Rattle.dataset.specs.Rounds.{LiesWatched, IsIntact, KeepsSound, AllKeepSound, first, later}
 use Rattle.dataset.specs.Rounds.{IsIntactAlong, IsUnwatched, AreUnwatched}
-use Rattle.dataset.proofs.Watching.{as_sound, same_heads, same_held}
+use Rattle.dataset.proofs.Watching.{as_sound, same_heads, same_held, same_contents}
 
 -- one of two, and nothing else
 pub old_or_new : (a b x : Ground) → LiesWatched a b x → (q : Names) → IsWatched q → (file_at x q ≡ file_at a q) ⊎ (file_at x q ≡ file_at b q)
@@ -37,7 +37,7 @@ unwatched_more (c ∷ round) more g none q watched =
     with_file_other c.0 c.1 (changed (round ++ more) g) q (unwatched_apart q c.0 watched none.0) ∙ unwatched_more round more g none.1 q watched
 
 still_intact : (a b x : Ground) → SameWatched x a → Sound a → IsIntact a b x
-still_intact a b x same sound = record { sound = as_sound a x same sound; heads = inl (same_heads a x same); held = same_held a x same }
+still_intact a b x same sound = record { sound = as_sound a x same sound; heads = inl (same_heads a x same); held = same_held a x same; contents = same_contents a x same }
 
 pub unwatched_keeps : (round : Round) (g : Ground) → IsUnwatched round → KeepsSound round g
 unwatched_keeps round g none sound x lies =
@@ -63,6 +63,7 @@ same_keeps one two a b start end keeps sound x lies =
       sound = intact.sound;
       heads = ⊎_elim (λ old. inl (heads_as x a b start old)) (λ new. inr (heads_as x (changed one a) (changed two b) end new)) intact.heads;
       held = λ root outside id o held. intact.held root outside id o (same_held b a (back_same b a start) root outside id o held);
+      contents = λ root outside key is stood. intact.contents root outside key is (same_contents b a (back_same b a start) root outside key is stood);
     }
 
 pub all_same_keep : (ones twos : List Round) (a b : Ground) → SameWatched b a → SameRounds IsWatched b twos a ones → AllKeepSound ones a → AllKeepSound twos b
@@ -95,14 +96,15 @@ module _ (p : Names) (bytes : List ℕ) (g : Ground) where
         | inr unseen ↦ inl (λ q watched. ⊎_elim (λ same. same) (λ new. new ∙ file_at-insert_other g p bytes q (unwatched_apart q p watched unseen)) (between q watched))
       ]
 
-  -- a round of one file keeps a ground sound where it is sound afterwards, and has lost no object
-  pub one_keeps : (Sound g → Sound after) → HoldsAll g after → KeepsSound ((p, Some bytes) ∷ []) g
-  one_keeps later_sound holds sound x lies = elim (one_or_other x lies) [
-    | inl old ↦ record { sound = as_sound g x old sound; heads = inl (same_heads g x old); held = same_held g x old }
+  -- a round of one file keeps a ground sound where it is sound afterwards, and has lost no object and no content
+  pub one_keeps : (Sound g → Sound after) → HoldsAll g after → HoldsContents g after → KeepsSound ((p, Some bytes) ∷ []) g
+  one_keeps later_sound holds contents sound x lies = elim (one_or_other x lies) [
+    | inl old ↦ record { sound = as_sound g x old sound; heads = inl (same_heads g x old); held = same_held g x old; contents = same_contents g x old }
     | inr new ↦ record {
       sound = as_sound after x new (later_sound sound);
       heads = inr (same_heads after x new);
       held = λ s apart i o h. same_held after x new s apart i o (holds s apart i o h);
+      contents = λ s apart key is stood. same_contents after x new s apart key is (contents s apart key is stood);
     }
   ]
 
@@ -114,14 +116,19 @@ rounds_keep rounds g keep sound x lies = along x rounds g keep sound lies
     along : (x : Ground) (rounds : List Round) (g : Ground) → AllKeepSound rounds g → Sound g → IsAlong IsWatched Nothing g rounds x → IsIntactAlong g rounds x
     along x rounds g keep sound (still lies) =
         let intact = still_intact g g x (λ q watched. ⊎_elim (λ same. same) (λ same. same) (old_or_new g g x lies q watched)) sound in
-        record { sound = intact.sound; heads = first (⊎_elim (λ h. h) (λ h. h) intact.heads); held = intact.held }
+        record { sound = intact.sound; heads = first (⊎_elim (λ h. h) (λ h. h) intact.heads); held = intact.held; contents = intact.contents }
     along x (round ∷ rounds) g keep sound (here lies) =
         let intact = keep.0 sound x lies in
-        record { sound = intact.sound; heads = ⊎_elim (λ h. first h) (λ h. later (first h)) intact.heads; held = intact.held }
+        record { sound = intact.sound; heads = ⊎_elim (λ h. first h) (λ h. later (first h)) intact.heads; held = intact.held; contents = intact.contents }
     along x (round ∷ rounds) g keep sound (there rest) =
         let next = after_round round g keep.0 sound in
         let intact = along x rounds (changed round g) keep.1 next.sound rest in
-        record { sound = intact.sound; heads = later intact.heads; held = λ root outside id o h. intact.held root outside id o (next.held root outside id o h) }
+        record {
+          sound = intact.sound;
+          heads = later intact.heads;
+          held = λ root outside id o h. intact.held root outside id o (next.held root outside id o h);
+          contents = λ root outside key is stood. intact.contents root outside key is (next.contents root outside key is stood);
+        }
 
 -- more rounds
 pub rounds_joined : (one two : List Round) (g : Ground) → AllKeepSound one g → AllKeepSound two (finally one g) → AllKeepSound (one ++ two) g
@@ -137,6 +144,12 @@ rounds_hold [] g keep sound root outside id o held = held
 rounds_hold (round ∷ rounds) g keep sound root outside id o held =
     let next = after_round round g keep.0 sound in
     rounds_hold rounds (changed round g) keep.1 next.sound root outside id o (next.held root outside id o held)
+
+pub rounds_hold_contents : (rounds : List Round) (g : Ground) → AllKeepSound rounds g → Sound g → HoldsContents g (finally rounds g)
+rounds_hold_contents [] g keep sound root outside key is stood = stood
+rounds_hold_contents (round ∷ rounds) g keep sound root outside key is stood =
+    let next = after_round round g keep.0 sound in
+    rounds_hold_contents rounds (changed round g) keep.1 next.sound root outside key is (next.contents root outside key is stood)
 
 pub rounds_unwatched : (rounds : List Round) (g : Ground) → AreUnwatched rounds → AllKeepSound rounds g
 rounds_unwatched [] g none = tt

@@ -107,6 +107,15 @@ seen_names (n ∷ root) names h =
 pub watched_at : (root names : Names) → IsRoot root → is_watched_name names ≡ true → IsWatched (repo_of root ++ names)
 watched_at root names h is = ap is_watched (in_repo root names) ∙ (λ i. not (tmp_below_root root (dlrepo ∷ names) h i) && seen_names root names h i) ∙ is
 
+and_false : (b : Bool) → (b && false) ≡ false
+and_false true = refl
+and_false false = refl
+
+-- and those of a place that isn't watched
+pub unwatched_at : (root names : Names) → IsRoot root → is_looked_at names ≡ false → is_watched (repo_of root ++ names) ≡ false
+unwatched_at root names h is =
+    ap is_watched (in_repo root names) ∙ (λ i. not (is_tmp (root ++ dlrepo ∷ names)) && (seen_names root names h ∙ is) i) ∙ and_false (not (is_tmp (root ++ dlrepo ∷ names)))
+
 inner_looked_at : (ns : Names) → is_looked_at (ns ++ dlrepo ∷ head_names) ≡ true
 inner_looked_at [] = refl
 inner_looked_at (n ∷ ns) = or_right (is_own n) (has_name dlrepo (n ∷ ns ++ dlrepo ∷ head_names)) (has_name-more dlrepo (n ∷ ns) head_names)

@@ -10,7 +10,7 @@ use Rattle.repository.specs.All.{LessTmp}
 use Rattle.repository.proofs.Unfinished.{tmp_firm}
 use Rattle.annex_store.specs.All.{content_names, log_names}
 use Rattle.dataset.specs.Watched.{IsRoot, SameWatched}
-use Rattle.dataset.specs.Sound.{HasSoundLogs, HasSoundObjects, IsSoundAt, Sound, HoldsAllIn, HoldsAll, SameHeads}
+use Rattle.dataset.specs.Sound.{HasSoundLogs, HasSoundObjects, IsSoundAt, Sound, HoldsAllIn, HoldsAll, HoldsContents, HoldsContentsIn, SameHeads}
 use Rattle.dataset.proofs.Splits.{head_names, is_watched_name, watched_at, watched_no_tmp, head_is_watched, head_watched, object_watched, branch_watched, settings_watched, tmp_watched}
 use Rattle.dataset.proofs.Heading.{head_in-as}
 use Rattle.dataset.proofs.KeyPlaces.{content_watched, is_annex_name, log_watched}
@@ -70,9 +70,13 @@ module _ (root : Names) (a b : Ground) (rest : SameRest root b a) where
   pub head_as : head_of b (repo_of root) ≡ head_of a (repo_of root)
   head_as = core_head root a b to_core
 
+  -- no content changes either
+  pub contents_too : HoldsContentsIn (repo_of root) a b
+  contents_too key is = stands_as (repo_of root) key a b (rest (content_names key) (content_watched key) refl)
+
   logs_too : HasSoundLogs root a → HasSoundLogs root b
   logs_too = logs_as root a b (rest (codes "config" ∷ []) settings_watched refl) (λ key. rest (log_names key) (log_watched key) refl)
-      (λ key is. stands_as (repo_of root) key a b (rest (content_names key) (content_watched key) refl))
+      contents_too
 
   -- with sound objects, a ground that has lost none is as sound
   pub grown : HoldsAllIn (repo_of root) a b → HasSoundObjects (repo_of root) b → IsSoundAt root a → IsSoundAt root b
@@ -105,6 +109,9 @@ module _ (a b : Ground) (same : SameWatched b a) where
 
   pub same_held : HoldsAll a b
   same_held root outside = held_in (repo_of root) a b (same_objects root outside)
+
+  pub same_contents : HoldsContents a b
+  same_contents root outside = contents_too root a b (λ names is other. same_in root outside names is)
 
   pub as_sound : Sound a → Sound b
   as_sound sound root is =

@@ -1,8 +1,8 @@
 -- The words of this crate, for those above.
 pub use Rattle.dataset.specs.Births.{BirthKeeps, IsBirth, IsBorn, bare_round, birth_rounds}
 pub use Rattle.dataset.specs.Births.{head_round}
-pub use Rattle.dataset.specs.Contents.{ContentsKeep, EachChange, HasContents, HoldsContents}
-pub use Rattle.dataset.specs.Contents.{IsContentPut, IsLogSet, KeepsContents, LogsKeep}
+pub use Rattle.dataset.specs.Contents.{ContentsKeep, EachChange, HasContents, IsContentPut}
+pub use Rattle.dataset.specs.Contents.{IsLogSet, KeepsContents, LogsKeep}
 pub use Rattle.dataset.specs.Contents.{PutsContents, SetsLogs}
 pub use Rattle.dataset.specs.Laws.{EmptyIsSound, LessTmpIsSound, LooksNowhereElse, MoreRounds}
 pub use Rattle.dataset.specs.Laws.{ObjectsKeep, OneFileKeeps, RoundsKeep, SameKeeps, SomeAreIntact}
@@ -24,7 +24,8 @@ pub use Rattle.dataset.specs.Saves.{IsNewCommit, IsSave, IsSaved, NewCommitIsWho
 pub use Rattle.dataset.specs.Saves.{NoneCollide, PutAreHeld, SaveKeeps, blob_objects, commit_object}
 pub use Rattle.dataset.specs.Saves.{saved_objects}
 pub use Rattle.dataset.specs.Sound.{HasSoundHeads, HasSoundLogs, HasSoundObjects, HasSoundSettings}
-pub use Rattle.dataset.specs.Sound.{HasSoundTmp, HasUuid, HoldsAll, HoldsAllIn, IsConfiguration}
+pub use Rattle.dataset.specs.Sound.{HasSoundTmp, HasUuid, HoldsAll, HoldsAllIn, HoldsContents}
+pub use Rattle.dataset.specs.Sound.{HoldsContentsIn, IsConfiguration}
 pub use Rattle.dataset.specs.Sound.{IsDataset, IsFormed, IsSoundAt, SameHeads, Sound}
 pub use Rattle.dataset.specs.Steps.{BindKeeps, GoByTmp, PutObjectsKeep, PutObjectsLeave, PutsKeep}
 pub use Rattle.dataset.specs.Steps.{PutsLeave, StillStepsKeep}

@@ -7,7 +7,7 @@ use Rattle.file_store.specs.All.{Round, changed}
 use Rattle.repository.specs.All.{repo_of}
 use Rattle.annex_store.specs.All.{Stands, content_place, log_place}
 use Rattle.dataset.specs.Watched.{IsRoot, is_watched}
-use Rattle.dataset.specs.Sound.{HasUuid, SameHeads}
+use Rattle.dataset.specs.Sound.{HasUuid, HoldsContents, SameHeads}
 use Rattle.dataset.specs.Rounds.{LiesWatched, KeepsSound}
 
 -- A content is put: bytes that match a key, at the place of its content.
@@ -46,13 +46,6 @@ PutsContents root round = EachChange (IsContentPut root) round
 -- Each sets a log of the dataset, by the contents that stand before the round.
 abbrev pub SetsLogs : Names → Ground → Round → Type 0
 SetsLogs root g round = EachChange (IsLogSet root g) round
-
--- Where bytes that match a key stand at its content's place in the first ground, they do so in the
--- second.
-abbrev pub HoldsContents : Ground → Ground → Type 0
-HoldsContents a b =
-    (root : Names) (key : PlainKey) → IsRoot root → IsKey key → Stands (repo_of root) key a
-    → Stands (repo_of root) key b
 
 -- A ground on the way of a round has the heads and the contents of the ground before it.
 pub record HasContents (g x : Ground) : Type 0 where

@@ -11,7 +11,7 @@ use Rattle.object_store.specs.All.{objects_round, IsCommitAt}
 use Rattle.object_store.specs.declared.objects.NewObject.{NewObject}
 use Rattle.dataset.specs.Watched.{IsRoot, IsWatched, SameWatched}
 use Rattle.dataset.specs.Whole.{Has, IsFull, IsWhole, AreWhole, HasAncestor, IsWholeByWalks}
-use Rattle.dataset.specs.Sound.{Sound, HoldsAllIn, HoldsAll, SameHeads}
+use Rattle.dataset.specs.Sound.{Sound, HoldsAllIn, HoldsAll, HoldsContents, SameHeads}
 use Rattle.dataset.specs.Rounds.{IsIntact, KeepsSound, AllKeepSound, IsIntactAlong, HasSome, CanPut}
 use Rattle.dataset.specs.Rounds.{tip_round, CanSet, IsUnwatched, AreUnwatched}
 
@@ -41,17 +41,20 @@ pub record WalksServe : Type 0 where
       → IsCommitAt repo c g fields → IsFull repo fields.tree.0 g
       → ((p : Id) → Has fields.parents p → IsWholeByWalks repo p.0 g) → IsWholeByWalks repo c g
 
--- A ground with the same at each watched place is as sound, and has the same heads and objects.
+-- A ground with the same at each watched place is as sound, and has the same heads, objects and
+-- contents.
 pub record LooksNowhereElse : Type 0 where
   pub sound : (a b : Ground) → SameWatched b a → Sound a → Sound b
   pub heads : (a b : Ground) → SameWatched b a → SameHeads b a
   pub held : (a b : Ground) → SameWatched b a → HoldsAll a b
+  pub contents : (a b : Ground) → SameWatched b a → HoldsContents a b
 
 -- So is a ground that has lost files of unfinished writes.
 pub record LessTmpIsSound : Type 0 where
   pub sound : (root : Names) (a b : Ground) → LessTmp (repo_of root) a b → Sound a → Sound b
   pub heads : (root : Names) (a b : Ground) → LessTmp (repo_of root) a b → SameHeads b a
   pub held : (root : Names) (a b : Ground) → LessTmp (repo_of root) a b → HoldsAll a b
+  pub contents : (root : Names) (a b : Ground) → LessTmp (repo_of root) a b → HoldsContents a b
 
 -- Where no file stands, nothing is unsound.
 abbrev pub EmptyIsSound : Type 0
@@ -80,11 +83,13 @@ TipKeeps =
 abbrev pub UnwatchedKeeps : Type 0
 UnwatchedKeeps = (round : Round) (g : Ground) → IsUnwatched round → KeepsSound round g
 
--- A round of one file does where the ground is sound afterwards and has lost no object.
+-- A round of one file does where the ground is sound afterwards and has lost no object and no
+-- content that matched its key.
 abbrev pub OneFileKeeps : Type 0
 OneFileKeeps =
     (p : Names) (bytes : List ℕ) (g : Ground) → (Sound g → Sound (insert g p bytes))
-    → HoldsAll g (insert g p bytes) → KeepsSound ((p, Some bytes) ∷ []) g
+    → HoldsAll g (insert g p bytes) → HoldsContents g (insert g p bytes)
+    → KeepsSound ((p, Some bytes) ∷ []) g
 
 -- A round that begins and ends with the same at each watched place as one that keeps a ground sound
 -- does so too.
@@ -100,7 +105,7 @@ RoundsKeep =
     → IsAlong IsWatched Nothing g rounds x → IsIntactAlong g rounds x
 
 -- Rounds in a row can be joined, unwatched ones always keep, and the last ground is sound and has
--- lost no object.
+-- lost no object, and no content that matched its key.
 pub record MoreRounds : Type 0 where
   pub joined : (one two : List Round) (g : Ground) → AllKeepSound one g
       → AllKeepSound two (finally one g) → AllKeepSound (one ++ two) g
@@ -109,3 +114,5 @@ pub record MoreRounds : Type 0 where
       → Sound (finally rounds g)
   pub held : (rounds : List Round) (g : Ground) → AllKeepSound rounds g → Sound g
       → HoldsAll g (finally rounds g)
+  pub contents : (rounds : List Round) (g : Ground) → AllKeepSound rounds g → Sound g
+      → HoldsContents g (finally rounds g)

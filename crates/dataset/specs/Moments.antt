@@ -37,8 +37,8 @@ pub record BeginsSound {V : Type 0} (act : Act V) (old : Drive) : Type 0 where
   pub keeps : ActKeeps act (present old)
 
 -- At every moment of such an act, what stands and what a crash leaves is sound, has the heads of
--- one of the act's grounds and holds what was held. When it is done, what stands is sound and the
--- disk settled again.
+-- one of the act's grounds and holds what was held, and no content that matched its key is lost.
+-- When it is done, what stands is sound and the disk settled again.
 pub record StaysSound {V : Type 0} (act : Act V) (old new : Drive) : Type 0 where
   pub moments : Moments act old new
       → Since (λ d. IsIntactDisk (present old) (rounds_in act) d) old.history new.history

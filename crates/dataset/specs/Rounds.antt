@@ -10,18 +10,19 @@ use Rattle.object_store.specs.All.{place_in, object_text, objects_round}
 use Rattle.object_store.specs.declared.objects.NewObject.{NewObject}
 use Rattle.dataset.specs.Watched.{is_watched, IsWatched}
 use Rattle.dataset.specs.Whole.{Has, IsWhole, AreWhole}
-use Rattle.dataset.specs.Sound.{Sound, HoldsAll, SameHeads}
+use Rattle.dataset.specs.Sound.{Sound, HoldsAll, HoldsContents, SameHeads}
 
 -- At each watched place stands what one of two grounds has there.
 abbrev pub LiesWatched : Ground → Ground → Ground → Type 0
 LiesWatched a b x = IsBetween IsWatched Nothing a b x
 
 -- A ground on the way from one to another is intact: it is sound, its heads are those of one of the
--- two, and it has lost no object.
+-- two, and it has lost no object, and no content that matched its key.
 pub record IsIntact (a b x : Ground) : Type 0 where
   pub sound : Sound x
   pub heads : SameHeads x a ⊎ SameHeads x b
   pub held : HoldsAll a x
+  pub contents : HoldsContents a x
 
 -- A round keeps a sound ground so: whatever lies between is intact.
 abbrev pub KeepsSound : Round → Ground → Type 0
@@ -40,11 +41,12 @@ pub data OneOf (P : Ground → Type 0) : Ground → List Round → Type 0 where
       → OneOf P g (round ∷ rounds)
 
 -- A ground on the way of some rounds is intact: it is sound, its heads are those of one of their
--- grounds, and nothing that was held at the start is lost.
+-- grounds, and nothing that was held at the start is lost, and no content that matched its key.
 pub record IsIntactAlong (g : Ground) (rounds : List Round) (x : Ground) : Type 0 where
   pub sound : Sound x
   pub heads : OneOf (λ a. SameHeads x a) g rounds
   pub held : HoldsAll g x
+  pub contents : HoldsContents g x
 
 -- The file of one of the objects, at its place.
 pub record IsPut (repo : Names) (objects : List NewObject) (q : Names) (v : Option (List ℕ))

@@ -8,7 +8,7 @@ use Rattle.location_log.specs.All.{PlainLine}
 use Rattle.repository.specs.All.{Head, head_of, id_in, is_branch, held_at, repo_of, head_place}
 use Rattle.repository.specs.All.{settings_place, object_place, branch_place, is_tmp}
 use Rattle.object_store.specs.All.{IsCommitAt}
-use Rattle.annex_store.specs.All.{IsHonest, IsLogIn, log_place}
+use Rattle.annex_store.specs.All.{IsHonest, IsLogIn, Stands, log_place}
 use Rattle.dataset.specs.Watched.{IsRoot}
 use Rattle.dataset.specs.Whole.{IsWhole, AreWhole}
 
@@ -91,6 +91,16 @@ HoldsAllIn repo a b =
 -- Nothing that is held in the first ground is lost in the second.
 abbrev pub HoldsAll : Ground → Ground → Type 0
 HoldsAll a b = (root : Names) → IsRoot root → HoldsAllIn (repo_of root) a b
+
+-- Where bytes that match a key stand at its content's place in one repository of the first ground,
+-- they do so in the second.
+abbrev pub HoldsContentsIn : Names → Ground → Ground → Type 0
+HoldsContentsIn repo a b =
+    (key : PlainKey) → IsKey key → Stands repo key a → Stands repo key b
+
+-- No content that matches its key in the first ground is lost in the second.
+abbrev pub HoldsContents : Ground → Ground → Type 0
+HoldsContents a b = (root : Names) → IsRoot root → HoldsContentsIn (repo_of root) a b
 
 -- Each dataset has the same head in both grounds.
 abbrev pub SameHeads : Ground → Ground → Type 0

@@ -257,7 +257,7 @@ module _ (root : Names) (outside : IsRoot root) where
           let c = changed (round_of files) g in
           each_two Keyed (λ x. Stands repo x.key c) (λ x. Stands repo x.key kept)
           (λ x key there. stands_as repo x.key c kept (left.leaves (content_place repo x.key) (watched_at root (content_names x.key) outside (content_watched x.key))) there) list keys
-          (all_stand g c (λ key formed there. (put.has c (record { places = λ q watched. inr (inl refl) })).contents root key outside formed there) list keys
+          (all_stand g c (λ key formed there. (put.has c (record { places = λ q watched. inr (inl refl) })).contents root outside key formed there) list keys
           (put_stand g 0 new (unkept_each Keyed repo g list keys) left.clean))
 
       set : KeepsContents (round_of (log_files repo 0 notes)) kept

@@ -28,7 +28,8 @@ pub record CanCreate (dataset : NewDataset) (old : Drive) : Type 0 where
   pub settled : IsSettled old.history.latest
 
 -- At every moment of its making, what stands and what a crash leaves is sound, and has lost no
--- object; and where nothing refuses it, it has its head at the end.
+-- object and no content that matched its key; and where nothing refuses it, it has its head at the
+-- end.
 pub record CreatesSound (dataset : NewDataset) (old new : Drive) : Type 0 where
   pub stays : StaysSound (create_step dataset (present old)) old new
   pub head : create_fault dataset.root (present old) ≡ None
@@ -47,7 +48,7 @@ pub record CanSave (root : Names) (old : Drive) : Type 0 where
   pub settled : IsSettled old.history.latest
 
 -- At every moment of a save, what stands and what a crash leaves is sound, has the heads of one of
--- the act's grounds, and has lost no object.
+-- the act's grounds, and has lost no object and no content that matched its key.
 abbrev pub SaveKeepsSound : Type 0
 SaveKeepsSound =
     (root : Names) (wish : SaveWish) (act : Act (Option Id)) (old new : Drive) → CanSave root old

@@ -4,8 +4,8 @@ use Rattle.std.specs.Prelude.{codes, decimal, bytes_eq}
 use Rattle.places.specs.All.{Names, IsAbove, is_above, are_apart}
 use Rattle.places.proofs.Above.{same_rest, apart-sound}
 use Rattle.git_objects.specs.All.{hex_of}
-use Rattle.repository.specs.Layout.{dlrepo, repo_of, config_place, settings_place, main_place}
-use Rattle.repository.specs.Layout.{head_place, object_place, tmp_place, is_in, in_tmp}
+use Rattle.repository.specs.Layout.{dlrepo, repo_of, config_place, settings_place, index_place}
+use Rattle.repository.specs.Layout.{main_place, head_place, object_place, tmp_place, is_in, in_tmp}
 use Rattle.repository.proofs.Unfinished.{is_in-under}
 
 -- a file of a dataset, or a temporary one
@@ -14,6 +14,7 @@ pub data Part : Type 0 where
   Object : (digits : List ℕ) → Part
   Config : Part
   Settings : Part
+  Index : Part
   Main : Part
   Head : Part
 
@@ -23,6 +24,7 @@ names_at (Tmp digits) = dlrepo ∷ codes "tmp" ∷ digits ∷ []
 names_at (Object digits) = dlrepo ∷ codes "objects" ∷ take 2 digits ∷ drop 2 digits ∷ []
 names_at Config = codes ".datalad" ∷ codes "config" ∷ []
 names_at Settings = dlrepo ∷ codes "config" ∷ []
+names_at Index = dlrepo ∷ codes "index" ∷ []
 names_at Main = dlrepo ∷ codes "refs" ∷ codes "heads" ∷ codes "main" ∷ []
 names_at Head = dlrepo ∷ codes "HEAD" ∷ []
 
@@ -40,6 +42,7 @@ parts_apart (Tmp x) (Tmp y) = and_false (bytes_eq x y)
 parts_apart (Object x) (Object y) = two_false (bytes_eq (take 2 x) (take 2 y)) (bytes_eq (drop 2 x) (drop 2 y))
 parts_apart Config Config = refl
 parts_apart Settings Settings = refl
+parts_apart Index Index = refl
 parts_apart Main Main = refl
 parts_apart Head Head = refl
 parts_apart a b = refl
@@ -49,6 +52,7 @@ part_below root (Tmp x) = (dlrepo, codes "tmp" ∷ x ∷ [], refl)
 part_below root (Object x) = (dlrepo, codes "objects" ∷ take 2 x ∷ drop 2 x ∷ [], refl)
 part_below root Config = (codes ".datalad", codes "config" ∷ [], refl)
 part_below root Settings = (dlrepo, codes "config" ∷ [], refl)
+part_below root Index = (dlrepo, codes "index" ∷ [], refl)
 part_below root Main = (dlrepo, codes "refs" ∷ codes "heads" ∷ codes "main" ∷ [], refl)
 part_below root Head = (dlrepo, codes "HEAD" ∷ [], refl)
 
@@ -80,6 +84,9 @@ object_is root id = append_assoc root (dlrepo ∷ []) (codes "objects" ∷ take 
 pub settings_is : (root : Names) → settings_place root ≡ root ++ names_at Settings
 settings_is root = append_assoc root (dlrepo ∷ []) (codes "config" ∷ [])
 
+pub index_is : (root : Names) → index_place root ≡ root ++ names_at Index
+index_is root = append_assoc root (dlrepo ∷ []) (codes "index" ∷ [])
+
 pub main_is : (root : Names) → main_place root ≡ root ++ names_at Main
 main_is root = append_assoc root (dlrepo ∷ []) (codes "refs" ∷ codes "heads" ∷ codes "main" ∷ [])
 
@@ -97,6 +104,9 @@ config_part root = part_at root Config _ false refl refl
 
 pub settings_part : (root : Names) → IsPart root (settings_place root) false
 settings_part root = part_at root Settings _ false refl (settings_is root)
+
+pub index_part : (root : Names) → IsPart root (index_place root) false
+index_part root = part_at root Index _ false refl (index_is root)
 
 pub main_part : (root : Names) → IsPart root (main_place root) false
 main_part root = part_at root Main _ false refl (main_is root)

@@ -7,7 +7,7 @@ unfoldable pub use Rattle.repository.specs.Heads.{branch_in, id_in, is_branch}
 pub use Rattle.repository.specs.Held.{HeldAgrees, IsHeld, held_at}
 unfoldable pub use Rattle.repository.specs.Held.{object_of}
 pub use Rattle.repository.specs.Layout.{branch_place, config_place, dlrepo, head_place, in_tmp}
-pub use Rattle.repository.specs.Layout.{is_in, is_single}
+pub use Rattle.repository.specs.Layout.{index_place, is_in, is_single}
 pub use Rattle.repository.specs.Layout.{main_place, object_names, object_place, repo_head, repo_of}
 pub use Rattle.repository.specs.Layout.{settings_place, tip_place, tmp_names, tmp_place}
 pub use Rattle.repository.specs.Limits.{item_limit, large, object_body_limit, object_file_limit}

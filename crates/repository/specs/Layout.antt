@@ -20,6 +20,10 @@ config_place root = root ++ codes ".datalad" ∷ codes "config" ∷ []
 abbrev pub settings_place : Names → Names
 settings_place root = repo_of root ++ codes "config" ∷ []
 
+-- `.dlrepo/index`.
+abbrev pub index_place : Names → Names
+index_place root = repo_of root ++ codes "index" ∷ []
+
 -- `HEAD` of a repository.
 abbrev pub repo_head : Names → Names
 repo_head repo = repo ++ codes "HEAD" ∷ []

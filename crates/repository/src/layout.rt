@@ -2,7 +2,8 @@
 ghost use Rattle.std.specs.Prelude.{◌≡◌, ◌≤◌, ◌++◌, length, IfOk, IsTrue, string_bytes, codes, decimal, take, drop, ◌∷◌};
 ghost use Rattle.places.specs.All.{is_path, pieces, text_of};
 ghost use Rattle.git_objects.specs.All.{hex_of};
-ghost use Rattle.repository.specs.Layout.{repo_of, config_place, settings_place, main_place, head_place, object_names};
+ghost use Rattle.repository.specs.Layout.{repo_of, config_place, settings_place, index_place, main_place, head_place};
+ghost use Rattle.repository.specs.Layout.{object_names};
 ghost use Rattle.repository.specs.Layout.{object_place, tmp_place};
 ghost use Rattle.repository.specs.Limits.{repo_limit, object_limit};
 
@@ -42,6 +43,15 @@ pub fn settings_place(alloc: Global, root: &Place) -> Result<Place, AllocError>
     ensures { IfOk result (λ place. place ≡ settings_place root.now) }
 {
     root.below(alloc, ".dlrepo/config")
+}
+
+/// Where git's index stands.
+#[tactic(auto, unfolding(places::specs::Names::is_path, places::specs::Names::is_name))]
+pub fn index_place(alloc: Global, root: &Place) -> Result<Place, AllocError>
+    requires { length (text_of (repo_of root.now)) ≤ repo_limit }
+    ensures { IfOk result (λ place. place ≡ index_place root.now) }
+{
+    root.below(alloc, ".dlrepo/index")
 }
 
 /// Where the branch `main` stands.

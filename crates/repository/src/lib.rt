@@ -7,7 +7,7 @@ mod limits;
 
 pub use held::held_agrees;
 pub use layout::{
-    config_place, head_place, main_place, object_place, repo_place, repo_place_text,
+    config_place, head_place, index_place, main_place, object_place, repo_place, repo_place_text,
     settings_place, tmp_place,
 };
 pub use limits::{

@@ -35,7 +35,8 @@ impl Leaf {
         }
     }
 
-    fn mode(self) -> Mode
+    /// The mode of its entry in a tree.
+    pub fn mode(self) -> Mode
         ensures { result ≡ mode_of self }
     {
         match self {
@@ -46,7 +47,8 @@ impl Leaf {
         }
     }
 
-    fn id(self) -> Id
+    /// The id of its object.
+    pub fn id(self) -> Id
         ensures { result ≡ id_of self }
     {
         match self {

@@ -2,7 +2,7 @@
 use super::common::{id, is_text, place};
 use file_store::Place;
 use repository::{
-    REPO_LIMIT, config_place, head_place, object_place, repo_place, repo_place_text,
+    REPO_LIMIT, config_place, head_place, index_place, object_place, repo_place, repo_place_text,
     settings_place, tmp_place,
 };
 use std::alloc::AllocError;
@@ -25,6 +25,7 @@ fn places_of_a_dataset(rt: HostRuntime) {
     stands_at(rt, repo_place(alloc, &root), "/w/ds/.dlrepo");
     stands_at(rt, config_place(alloc, &root), "/w/ds/.datalad/config");
     stands_at(rt, settings_place(alloc, &root), "/w/ds/.dlrepo/config");
+    stands_at(rt, index_place(alloc, &root), "/w/ds/.dlrepo/index");
     stands_at(rt, head_place(alloc, &root), "/w/ds/.dlrepo/HEAD");
 }
 
