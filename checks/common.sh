@@ -75,13 +75,14 @@ picture() {
   (cd "$1" && { find . -printf '%y %m %T@ %p\n' && find . -type f -exec sha1sum {} +; } 2>/dev/null | LC_ALL=C sort)
 }
 
-# is_dataset FOLDER: whether it holds the eight files of a new dataset, and no other file
+# is_dataset FOLDER: whether it holds the nine files of a new dataset, and no other file
 is_dataset() {
   local uuid='[0-9a-f]{8}-[0-9a-f]{4}-5[0-9a-f]{3}-[89ab][0-9a-f]{3}-[0-9a-f]{12}' main id names
   names=$(files_of "$1" | sed -E 's|^(\.dlrepo/objects/)[0-9a-f]{2}/[0-9a-f]{38}$|\1ID|')
   [ "$names" = ".datalad/config
 .dlrepo/HEAD
 .dlrepo/config
+.dlrepo/index
 .dlrepo/objects/ID
 .dlrepo/objects/ID
 .dlrepo/objects/ID
@@ -90,6 +91,8 @@ is_dataset() {
   [[ $(cat "$1/.datalad/config" && echo .) =~ ^'[datalad "dataset"]'$'\n\tid = '$uuid$'\n'\.$ ]] || return 1
   [[ $(cat "$1/.dlrepo/config" && echo .) =~ ^'[annex]'$'\n\tuuid = '$uuid$'\n\tnumcopies = 1\n[user]\n\tname = DataLad User\n\temail = user@localhost\n'\.$ ]] || return 1
   [ "$(cat "$1/.dlrepo/HEAD" && echo .)" = $'ref: refs/heads/main\n.' ] || return 1
+  [ "$(wc -c <"$1/.dlrepo/index")" = 112 ] || return 1
+  [ "$(head -c 92 "$1/.dlrepo/index" | sha1sum)" = "$(tail -c 20 "$1/.dlrepo/index" | od -An -v -tx1 | tr -d ' \n')  -" ] || return 1
   main=$(cat "$1/.dlrepo/refs/heads/main" && echo .)
   [[ $main =~ ^[0-9a-f]{40}$'\n'\.$ ]] || return 1
   id=${main:0:40}

@@ -1,5 +1,5 @@
 -- Acts with a text in the place of their value, and calls that act after they have read.
-use Rattle.std.proofs.Common.{◌≡◌, ◌⊎◌, inl, inr, Bool, IsTrue, ℕ, List, [], ◌∷◌, ◌++◌, codes, Option, Some, None, Result, Ok, Err, refl, sym, ap, ◌∙◌, subst}
+use Rattle.std.proofs.Common.{◌≡◌, inl, inr, Bool, IsTrue, ℕ, List, [], Option, Some, None, Result, Ok, Err, refl, sym, ap, ◌∙◌, subst}
 use Rattle.places.specs.All.{Names, Ground}
 use Rattle.file_store.specs.All.{Drive, History, present}
 use Rattle.faults.specs.declared.lines.Line.{Line}
@@ -12,7 +12,7 @@ use Rattle.acts.specs.All.{HasCause, IsHalt, Reaches, gives, is_device, still}
 use Rattle.file_store.proofs.Counted.{counts_from}
 use Rattle.acts.proofs.As.{as_allowed}
 use Rattle.acts.proofs.Laws.{after_reading, done}
-use Rattle.recursive_save.specs.All.{AreSaveLines, IsSave, MaySave, SaveSays, dataset_line}
+use Rattle.recursive_save.specs.All.{IsSave, MaySave}
 use Rattle.datalad_cli.specs.Commands.{CarriesOut, Save, IsActIn, IsActOf, IsSaveBy, MayAnswer}
 use Rattle.datalad_cli.specs.Commands.{ending_with, wish_of, with_text}
 use Rattle.datalad_cli.specs.Finding.{IsRootOf, Location, no_root, root_in}

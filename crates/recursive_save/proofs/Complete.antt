@@ -19,7 +19,7 @@ use Rattle.annex_store.specs.All.{keeps_all, log_files, puts_any, sets_notes, st
 use Rattle.annex_store.specs.All.{stores, unkept, write_fault}
 use Rattle.annex_store.specs.declared.members.NewContent.{NewContent}
 use Rattle.repository.specs.All.{held_at, id_text, large}
-use Rattle.repository.specs.All.{object_limit, object_of, repo_limit, repo_of, settings_place}
+use Rattle.repository.specs.All.{index_place, object_limit, object_of, repo_limit, repo_of, settings_place}
 use Rattle.repository.specs.All.{is_tmp, tmp_place}
 use Rattle.repository.proofs.Holds.{held_is, none_of_text}
 use Rattle.repository.proofs.Unfinished.{object_firm}
@@ -27,6 +27,7 @@ use Rattle.acts.specs.All.{Act, Ending, Gives, Refuses, Breaks, Step, bind, endi
 use Rattle.acts.specs.All.{go_on, last_of, put_act, puts, says, unless}
 use Rattle.object_store.specs.All.{early_fault, fault_in, first_fault, found_fault, long_fault}
 use Rattle.object_store.specs.All.{missing, object_text, place_in, puts_missing, puts_objects}
+use Rattle.index_store.specs.All.{keeps_index, sets_index, snapshot_text}
 use Rattle.object_store.specs.All.{puts_some, staging}
 use Rattle.object_store.specs.declared.objects.NewObject.{NewObject}
 use Rattle.ref_store.specs.All.{given, head_at, head_fault, head_given, long_repo, puts_one}
@@ -35,14 +36,14 @@ use Rattle.snapshot.specs.declared.entries.Entry.{Entry}
 use Rattle.dataset.specs.All.{IsLimitAtMost, IsSoundAt}
 use Rattle.dataset.proofs.Ids.{oid_is_id}
 use Rattle.dataset.proofs.Readable.{head_read, object_held, readable}
-use Rattle.tree_status.specs.All.{IsRead, IsSoundNoStatus, KeepBy, WorkFile}
+use Rattle.tree_status.specs.All.{IsRead, IsSoundNoStatus, KeepBy, WorkFile, new_entries}
 use Rattle.tree_status.specs.declared.found.WorkingFile.{WorkingFile}
 use Rattle.tree_status.proofs.SoundLooks.{Only, cond_only, limit_only, of_limit, of_only, or_only, unread_sound}
 use Rattle.recursive_save.specs.Contents.{HaveSources, IsKeepingOf, contents}
 use Rattle.recursive_save.specs.Saved.{IsSoundEnding, IsSoundRefusal, SaveIsComplete}
 use Rattle.recursive_save.specs.Saving.{IsSave, SavePlan, blobs_limit, clash_fault, clash_with}
 use Rattle.recursive_save.specs.Saving.{clashing, clean, kept, line_fault, new_blobs, plan_fault, save_lines}
-use Rattle.recursive_save.specs.Saving.{saved, saves, saves_contents, saves_nothing, says_all}
+use Rattle.recursive_save.specs.Saving.{saved, saves, saves_contents, saves_lines, says_all}
 use Rattle.recursive_save.specs.Saving.{settings_fault, settings_in, settings_limit, sum_fault}
 use Rattle.recursive_save.specs.Saving.{unplanned, unread, writes}
 use Rattle.recursive_save.specs.declared.wishes.SaveWish.{SaveWish}
@@ -134,9 +135,27 @@ unfolding fold bind says gives
 lines_sound [] g = tt
 lines_sound (line ∷ lines) g = lines_sound lines g
 
-nothing_sound : (g : Ground) → EndsSoundly (saves_nothing g)
-unfolding saves_nothing bind says gives
-nothing_sound g = tt
+-- THE INDEX
+abbrev IndexEnds : Step (Unit {0}) → Type 0
+IndexEnds index = (g : Ground) → EndsSoundly (index g)
+
+set_index_sound : (root : Names) (list : List Entry) → IndexEnds (sets_index root list)
+unfolding sets_index
+set_index_sound root list g =
+    bind_sound (unless (λ h. long_repo (repo_of root))) (λ t. puts_one (repo_of root) (index_place root) (snapshot_text list)) g
+    (unless_sound (λ h. long_repo (repo_of root)) g (cond_sound (nat_lt repo_limit (length (text_of (repo_of root)))) (large (repo_of root)) None tt tt))
+    (λ v. puts_sound (only (tmp_place (repo_of root) 0) (index_place root) (snapshot_text list)) _)
+
+index_sound : (root : Names) (indexed : Bool) (list : List Entry) → IndexEnds (keeps_index indexed root list)
+unfolding gives
+index_sound root true list g = tt
+index_sound root false list g = set_index_sound root list g
+
+no_commit_sound : (index : Step (Unit {0})) → IndexEnds index → (lines : List Line) (g : Ground) → EndsSoundly (saves_lines index lines g)
+unfolding saves_lines gives
+no_commit_sound index ends lines g =
+    bind_sound index (λ t. bind (says_all lines) (λ u. gives None)) g (ends g)
+    (λ t. bind_sound (says_all lines) (λ u. gives None) _ (lines_sound lines _) (λ u. tt))
 
 -- CONTENTS that their sources have, and keys in form
 any_sound : (list : List Replacement) (g : Ground) → EndsSoundly (puts_any list g)
@@ -265,34 +284,38 @@ module _ (root : Names) (g : Ground) (at : IsSoundAt root g) where
     kept_sound =
         keeping_sound keep.uuid wish.moment (contents root by files) keeps (have_keys root wish.to_git g parent by files read) (have_sources root wish.to_git g parent by files read) keep.keep
 
-    contents_sound : (lines : List Line) → EndsSoundly (saves_contents lines keeps g)
-    unfolding saves_contents gives
-    contents_sound lines =
-        bind_sound (λ h. keeps) (λ t. bind (says_all lines) (λ u. gives None)) g kept_sound
-        (λ t. bind_sound (says_all lines) (λ u. gives None) (last_of keeps g) (lines_sound lines (last_of keeps g)) (λ u. tt))
+    contents_sound : (index : Step (Unit {0})) → IndexEnds index → (lines : List Line) → EndsSoundly (saves_contents index lines keeps g)
+    unfolding saves_contents
+    contents_sound index ends lines = bind_sound (λ h. keeps) (λ t. saves_lines index lines) g kept_sound (λ t. no_commit_sound index ends lines (last_of keeps g))
 
-    module _ (plan : SavePlan) where
-      writes_sound : EndsSoundly (writes root plan (last_of keeps g))
+    module _ (index : Step (Unit {0})) (ends : IndexEnds index) (plan : SavePlan) where
+      abbrev said : Step (Option Id)
+      said = bind (says_all plan.lines) (λ w. gives (Some (record { 0 = plan.commit })))
+
+      writes_sound : EndsSoundly (writes root index plan (last_of keeps g))
       unfolding gives
       writes_sound =
-          bind_sound (puts_objects repo plan.objects) (λ t. bind (sets_tip repo plan.commit) (λ u. bind (says_all plan.lines) (λ w. gives (Some (record { 0 = plan.commit }))))) (last_of keeps g)
+          bind_sound (puts_objects repo plan.objects) (λ t. bind (sets_tip repo plan.commit) (λ u. bind index (λ w. said))) (last_of keeps g)
           (put_sound (last_of keeps g) (object_same root g plan keeps (keeping_of root g wish.moment by files keeps keep)) plan.objects)
-          (λ v. bind_sound (sets_tip repo plan.commit) (λ u. bind (says_all plan.lines) (λ w. gives (Some (record { 0 = plan.commit })))) _ (sets_sound plan.commit _ (ap (given head_given) (head_same root g plan keeps (keeping_of root g wish.moment by files keeps keep))))
-          (λ u. bind_sound (says_all plan.lines) (λ w. gives (Some (record { 0 = plan.commit }))) _ (lines_sound plan.lines _) (λ w. tt)))
+          (λ v. bind_sound (sets_tip repo plan.commit) (λ u. bind index (λ w. said)) _ (sets_sound plan.commit _ (ap (given head_given) (head_same root g plan keeps (keeping_of root g wish.moment by files keeps keep))))
+          (λ u. bind_sound index (λ w. said) _ (ends _)
+          (λ w. bind_sound (says_all plan.lines) (λ v. gives (Some (record { 0 = plan.commit }))) _ (lines_sound plan.lines _) (λ v. tt))))
 
-      saves_sound : EndsSoundly (saves root plan keeps g)
+      saves_sound : EndsSoundly (saves root index plan keeps g)
       unfolding saves unless
       saves_sound =
-          bind_sound (unless (λ h. clash_fault [] plan.objects)) (λ t. bind (λ h. keeps) (λ u. writes root plan)) g (ending_sound (clash_fault [] plan.objects) (clash_sound [] plan.objects))
-          (λ t. bind_sound (λ h. keeps) (λ u. writes root plan) g kept_sound (λ u. writes_sound))
+          bind_sound (unless (λ h. clash_fault [] plan.objects)) (λ t. bind (λ h. keeps) (λ u. writes root index plan)) g (ending_sound (clash_fault [] plan.objects) (clash_sound [] plan.objects))
+          (λ t. bind_sound (λ h. keeps) (λ u. writes root index plan) g kept_sound (λ u. writes_sound))
 
   save_ends : (wish : SaveWish) (act : Act (Option Id)) → IsSave root wish g act → EndsSoundly act
   save_ends wish _ (unread fault why) = look_sound fault (unread_sound root g at wish.to_git fault why)
-  save_ends wish _ (clean parent by files read same) = nothing_sound g
+  save_ends wish _ (clean parent by files indexed read same own_index) = no_commit_sound _ (index_sound root indexed by.old) _ g
   save_ends wish _ (unplanned parent by files fault read changed why) = of_soundly (plan_fault root g by.old files) fault (plan_sound by.old files) why
-  save_ends wish _ (kept parent by files keeps read changed same none keep) = contents_sound wish parent by files keeps read keep (save_lines by.old files (codes "notneeded"))
+  save_ends wish _ (kept parent by files keeps indexed read changed same none keep own_index) =
+      contents_sound wish parent by files keeps read keep _ (index_sound root indexed by.old) (save_lines by.old files (codes "notneeded"))
   save_ends wish _ (clashing parent by files plan fault read other none planned clash) = of_soundly (clash_fault [] plan.objects) fault (clash_sound [] plan.objects) clash
-  save_ends wish _ (saved parent by files plan keeps read other none planned keep) = saves_sound wish parent by files keeps read keep plan
+  save_ends wish _ (saved parent by files plan keeps indexed read other none planned keep own_index) =
+      saves_sound wish parent by files keeps read keep _ (index_sound root indexed (new_entries by.old files)) plan
 
 pub is_complete : SaveIsComplete
 is_complete root wish g act sound dataset is = save_ends root g (sound root dataset) wish act is

@@ -13,7 +13,7 @@ use Rattle.file_store.proofs.Consequences.{now_along, image_along, AllLeave, AtM
 use Rattle.git_objects.specs.All.{oid, hex_of}
 use Rattle.git_objects.specs.declared.ids.Id.{Id}
 use Rattle.repository.specs.All.{IsOutside, object_place, dlrepo, repo_of}
-use Rattle.repository.specs.All.{config_place, settings_place, main_place, head_place}
+use Rattle.repository.specs.All.{config_place, index_place, settings_place, main_place, head_place}
 use Rattle.acts.specs.All.{Act, Refuses, still, none_loose, rounds_in, last_of, IsFirm, Nothing}
 use Rattle.acts.specs.All.{OldOrNew, NewWithAll}
 use Rattle.object_store.specs.All.{place_in, objects_round}
@@ -24,7 +24,7 @@ use Rattle.recursive_save.specs.Creating.{create_fault, create_step}
 use Rattle.recursive_save.specs.Creating.{IsVacant}
 use Rattle.recursive_save.specs.Laws.{CreateKeeps}
 use Rattle.recursive_save.specs.Remains.{HeldStay, SameOutside, CreateRemains}
-use Rattle.repository.proofs.Parts.{Part, Object, Config, Settings, Main, Head, names_at, part_below, object_is, settings_is, main_is, head_is, other_part}
+use Rattle.repository.proofs.Parts.{Part, Object, Config, Index, Settings, Main, Head, names_at, part_below, object_is, index_is, settings_is, main_is, head_is, other_part}
 use Rattle.recursive_save.proofs.Clear.{free_at}
 use Rattle.repository.proofs.Unfinished.{firm_outside, head_firm}
 use Rattle.recursive_save.proofs.Made.{whole_rounds, made_act, create_made, create_refused, vacant_of, last_same, rounds_same}
@@ -35,11 +35,12 @@ module _ (root : Names) (parts : Parts) where
 
   -- an object's place is no other file's
   no_files : (q : Names) (x : NewObject) → q ≡ place_in (repo_of root) x
-      → (q ≢ config_place root) × (q ≢ settings_place root) × (q ≢ main_place root) × (q ≢ head_place root)
+      → (q ≢ config_place root) × (q ≢ index_place root) × (q ≢ settings_place root) × (q ≢ main_place root) × (q ≢ head_place root)
   no_files q x is =
       let object = Object (hex_of (oid x.kind x.body)) in
       let at = is ∙ object_is root (oid x.kind x.body) in (
         other_part root object Config q (config_place root) at refl refl,
+        other_part root object Index q (index_place root) at (index_is root) refl,
         other_part root object Settings q (settings_place root) at (settings_is root) refl,
         other_part root object Main q (main_place root) at (main_is root) refl,
         other_part root object Head q (head_place root) at (head_is root) refl,
@@ -60,32 +61,36 @@ module _ (root : Names) (parts : Parts) where
 
   -- each place is changed once at most, and only below the root
   pub once_or : (q : Names) → AllLeave (dataset_rounds root parts) q ⊎ Once q
-  once_or q = by (objects_or q parts.objects) (cases_place q (config_place root)) (cases_place q (settings_place root)) (cases_place q (main_place root)) (cases_place q (head_place root))
+  once_or q = by (objects_or q parts.objects) (cases_place q (config_place root)) (cases_place q (index_place root)) (cases_place q (settings_place root)) (cases_place q (main_place root)) (cases_place q (head_place root))
     where
       by : LeftBy (objects_round (repo_of root) parts.objects) q ⊎ ((x : NewObject) × (q ≡ place_in (repo_of root) x))
-          → (q ≡ config_place root) ⊎ (q ≢ config_place root) → (q ≡ settings_place root) ⊎ (q ≢ settings_place root) → (q ≡ main_place root) ⊎ (q ≢ main_place root) → (q ≡ head_place root) ⊎ (q ≢ head_place root)
+          → (q ≡ config_place root) ⊎ (q ≢ config_place root) → (q ≡ index_place root) ⊎ (q ≢ index_place root) → (q ≡ settings_place root) ⊎ (q ≢ settings_place root) → (q ≡ main_place root) ⊎ (q ≢ main_place root) → (q ≡ head_place root) ⊎ (q ≢ head_place root)
           → AllLeave (dataset_rounds root parts) q ⊎ Once q
-      by (inr (x, is)) c s m h =
+      by (inr (x, is)) c i s m h =
           let others = no_files q x is in
-          inr (not_later (((others.0, (others.1, (others.2, tt)))), ((others.3, tt), tt)), below (Object (hex_of (oid x.kind x.body))) q (is ∙ object_is root (oid x.kind x.body)))
-      by (inl left) (inl is) s m h = inr (not_here left (not_later ((other_part root Config Head q (head_place root) is (head_is root) refl, tt), tt)), below Config q is)
-      by (inl left) (inr c) (inl is) m h = inr (not_here left (not_later ((other_part root Settings Head q (head_place root) (is ∙ settings_is root) (head_is root) refl, tt), tt)), below Settings q (is ∙ settings_is root))
-      by (inl left) (inr c) (inr s) (inl is) h = inr (not_here left (not_later ((other_part root Main Head q (head_place root) (is ∙ main_is root) (head_is root) refl, tt), tt)), below Main q (is ∙ main_is root))
-      by (inl left) (inr c) (inr s) (inr m) (inl is) = inr (not_here left (not_here (c, (s, (m, tt))) (not_later tt)), below Head q (is ∙ head_is root))
-      by (inl left) (inr c) (inr s) (inr m) (inr h) = inl (left, ((c, (s, (m, tt))), ((h, tt), tt)))
+          inr (not_later (((others.0, (others.1, (others.2, (others.3, tt))))), ((others.4, tt), tt)), below (Object (hex_of (oid x.kind x.body))) q (is ∙ object_is root (oid x.kind x.body)))
+      by (inl left) (inl is) i s m h = inr (not_here left (not_later ((other_part root Config Head q (head_place root) is (head_is root) refl, tt), tt)), below Config q is)
+      by (inl left) (inr c) (inl is) s m h = inr (not_here left (not_later ((other_part root Index Head q (head_place root) (is ∙ index_is root) (head_is root) refl, tt), tt)), below Index q (is ∙ index_is root))
+      by (inl left) (inr c) (inr i) (inl is) m h = inr (not_here left (not_later ((other_part root Settings Head q (head_place root) (is ∙ settings_is root) (head_is root) refl, tt), tt)), below Settings q (is ∙ settings_is root))
+      by (inl left) (inr c) (inr i) (inr s) (inl is) h = inr (not_here left (not_later ((other_part root Main Head q (head_place root) (is ∙ main_is root) (head_is root) refl, tt), tt)), below Main q (is ∙ main_is root))
+      by (inl left) (inr c) (inr i) (inr s) (inr m) (inl is) = inr (not_here left (not_here (c, (i, (s, (m, tt)))) (not_later tt)), below Head q (is ∙ head_is root))
+      by (inl left) (inr c) (inr i) (inr s) (inr m) (inr h) = inl (left, ((c, (i, (s, (m, tt)))), ((h, tt), tt)))
 
   head_left : (objects : List NewObject) → LeftBy (objects_round (repo_of root) objects) (head_place root)
   head_left [] = tt
-  head_left (x ∷ objects) = ((λ is. (no_files (head_place root) x is).3 refl), head_left objects)
+  head_left (x ∷ objects) = ((λ is. (no_files (head_place root) x is).4 refl), head_left objects)
 
   -- before the last round HEAD is as it was
-  head_last : AllLeave (objects_round (repo_of root) parts.objects ∷ ((config_place root, Some parts.config) ∷ (settings_place root, Some parts.settings) ∷ (main_place root, Some parts.main) ∷ []) ∷ []) (head_place root)
+  head_last : AllLeave (objects_round (repo_of root) parts.objects ∷ ((config_place root, Some parts.config) ∷ (index_place root, Some parts.index) ∷ (settings_place root, Some parts.settings) ∷ (main_place root, Some parts.main) ∷ []) ∷ []) (head_place root)
   head_last = (
     head_left parts.objects,
     (
       (
         other_part root Head Config (head_place root) (config_place root) (head_is root) refl refl,
-        (other_part root Head Settings (head_place root) (settings_place root) (head_is root) (settings_is root) refl, (other_part root Head Main (head_place root) (main_place root) (head_is root) (main_is root) refl, tt)),
+        (
+          other_part root Head Index (head_place root) (index_place root) (head_is root) (index_is root) refl,
+          (other_part root Head Settings (head_place root) (settings_place root) (head_is root) (settings_is root) refl, (other_part root Head Main (head_place root) (main_place root) (head_is root) (main_is root) refl, tt)),
+        ),
       ),
       tt,
     ),
@@ -112,7 +117,7 @@ module _ (root : Names) (parts : Parts) where
     -- HEAD is new only with all the rest
     pub head_with_all : IsFirm none_loose (head_place root) → NewWithAll Else (head_place root) g (finally (dataset_rounds root parts) g) x
     head_with_all firm = last_place (IsFirm none_loose) Else x (head_place root) (Some head_text) firm
-        (objects_round (repo_of root) parts.objects ∷ ((config_place root, Some parts.config) ∷ (settings_place root, Some parts.settings) ∷ (main_place root, Some parts.main) ∷ []) ∷ []) head_last g along
+        (objects_round (repo_of root) parts.objects ∷ ((config_place root, Some parts.config) ∷ (index_place root, Some parts.index) ∷ (settings_place root, Some parts.settings) ∷ (main_place root, Some parts.main) ∷ []) ∷ []) head_last g along
 
     -- what any repository held it holds
     pub held_stay : IsVacant root g → HeldStay Else g x

@@ -105,8 +105,8 @@ module _ (root : Names) (moment : ℕ) (fresh : List ℕ) where
   writes_shut g x objects is vacant fits above =
       let parts = new_parts (new_dataset root moment fresh) in
       ap (λ (a : Act (Unit {0})). go_on
-      (go_on a a.ending g (λ _. bind (puts (middle_files root parts.config parts.settings parts.main)) (λ _. puts (only (tmp_place (repo_of root) 0) (head_place root) head_text))))
-      (go_on a a.ending g (λ _. bind (puts (middle_files root parts.config parts.settings parts.main)) (λ _. puts (only (tmp_place (repo_of root) 0) (head_place root) head_text)))).ending
+      (go_on a a.ending g (λ _. bind (puts (middle_files root parts.config parts.index parts.settings parts.main)) (λ _. puts (only (tmp_place (repo_of root) 0) (head_place root) head_text))))
+      (go_on a a.ending g (λ _. bind (puts (middle_files root parts.config parts.index parts.settings parts.main)) (λ _. puts (only (tmp_place (repo_of root) 0) (head_place root) head_text)))).ending
       g (λ _. finish (new_dataset root moment fresh)))
       (ap (λ (z : List NewObject). puts_objects (repo_of root) z g) is ∙ put_shut root x objects g vacant fits above)
 

@@ -13,8 +13,10 @@ use Rattle.git_objects.specs.declared.entries.Mode.TheVariants.{File, Dir as Dir
 use Rattle.git_objects.specs.declared.objects.ObjKind.TheVariants.{Blob, Tree, Commit}
 use Rattle.git_objects.proofs.Lengths.{length-oid}
 use Rattle.git_objects.proofs.Parsing.{commit_once}
-use Rattle.repository.specs.All.{is_branch, IsHeld, dlrepo, repo_of, config_place, is_tmp}
+use Rattle.repository.specs.All.{is_branch, IsHeld, dlrepo, repo_of, config_place, index_place}
+use Rattle.repository.specs.All.{is_tmp}
 use Rattle.repository.proofs.Holds.{is_held}
+use Rattle.index_store.specs.All.{snapshot_text}
 use Rattle.object_store.specs.All.{with_objects}
 use Rattle.object_store.specs.declared.objects.NewObject.{NewObject}
 use Rattle.snapshot.specs.All.{Dir, Empty, Item, Sub, entries_of, root_id, IsTreeOf, leaf_entry}
@@ -25,15 +27,16 @@ use Rattle.dataset.specs.All.{IsRoot, is_looked_at, is_seen, is_watched, Has, Is
 use Rattle.dataset.proofs.Commits.{new_commit_whole}
 use Rattle.dataset.proofs.Ids.{oid_is_id}
 use Rattle.dataset.proofs.Putting.{put_held}
+use Rattle.dataset.proofs.Splits.{unwatched_at}
 use Rattle.recursive_save.specs.First.{dataset_config, settings_text, first_objects, first_id}
 use Rattle.recursive_save.specs.First.{first_commit, first_message, inner_tree, root_tree}
 use Rattle.recursive_save.specs.First.{default_person, default_name, default_email, new_dataset}
-use Rattle.recursive_save.specs.First.{new_parts, dataset_rounds, head_text}
+use Rattle.recursive_save.specs.First.{new_parts, dataset_rounds, first_snapshot, head_text}
 use Rattle.recursive_save.proofs.FirstFacts.{user_is_person, config_is_entry, datalad_is_entry}
 
--- the file that is kept in git
+-- the file that is kept in git, and the index
 abbrev pub working_round : Names → List ℕ → Round
-working_round root config = (config_place root, Some config) ∷ []
+working_round root config = (config_place root, Some config) ∷ (index_place root, Some (snapshot_text (first_snapshot config))) ∷ []
 
 -- a working file isn't watched
 config_unseen : (root : Names) → IsRoot root → is_seen (config_place root) ≡ false
@@ -162,7 +165,7 @@ module _ (root : Names) (moment : ℕ) (fresh : List ℕ) where
     outside = outside;
     vacant = vacant;
     first = no_parents root moment dated config g own;
-    unwatched = (config_unwatched root outside, tt);
+    unwatched = (config_unwatched root outside, (unwatched_at root (codes "index" ∷ []) outside refl, tt));
     valid = valid;
     named = main_is_branch;
     whole = whole root moment dated config g own;

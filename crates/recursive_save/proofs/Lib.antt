@@ -10,6 +10,7 @@ pub mod Done
 pub mod EachContent
 pub mod FirstCommit
 pub mod FirstFacts
+pub mod FirstPaths
 pub mod Following
 pub mod Handed
 pub mod KeepEnds

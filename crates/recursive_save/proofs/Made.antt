@@ -83,12 +83,12 @@ as_events (round ∷ rounds) = Changes round ∷ as_events rounds
 abbrev pub whole_rounds : Names → Parts → Ground → List Round
 whole_rounds root parts g =
     whole_round (files root parts.objects g)
-    ∷ whole_round (middle_files root parts.config parts.settings parts.main)
+    ∷ whole_round (middle_files root parts.config parts.index parts.settings parts.main)
     ∷ whole_round (only (tmp_place (repo_of root) 0) (head_place root) head_text) ∷ []
 
-module _ (root : Names) (x : NewObject) (objects : List NewObject) (config settings main : List ℕ) (g : Ground) (vacant : IsVacant root g) (fits : length (text_of (repo_of root)) ≤ 3584) (above : stands_above g root ≡ false) where
+module _ (root : Names) (x : NewObject) (objects : List NewObject) (config index settings main : List ℕ) (g : Ground) (vacant : IsVacant root g) (fits : length (text_of (repo_of root)) ≤ 3584) (above : stands_above g root ≡ false) where
   abbrev parts : Parts
-  parts = record { config = config; settings = settings; main = main; objects = x ∷ objects }
+  parts = record { config = config; settings = settings; index = index; main = main; objects = x ∷ objects }
 
   clear : IsClear root g
   clear = clear_base root g vacant above
@@ -97,7 +97,7 @@ module _ (root : Names) (x : NewObject) (objects : List NewObject) (config setti
   g1 = changed (whole_round (files root (x ∷ objects) g)) g
 
   abbrev middle : List Replacement
-  middle = middle_files root config settings main
+  middle = middle_files root config index settings main
 
   abbrev head : List Replacement
   head = only (tmp_place (repo_of root) 0) (head_place root) head_text
@@ -106,7 +106,7 @@ module _ (root : Names) (x : NewObject) (objects : List NewObject) (config setti
   clear1 = clear_whole root (files root (x ∷ objects) g) g (staging_ours root 0 (missing (repo_of root) (x ∷ objects) g)) clear
 
   clear2 : IsClear root (changed (whole_round middle) g1)
-  clear2 = clear_whole root middle g1 (middle_ours root config settings main) clear1
+  clear2 = clear_whole root middle g1 (middle_ours root config index settings main) clear1
 
   abbrev after_objects : Act (Unit {0}) → Act (Unit {0})
   after_objects a = go_on a a.ending g (λ _. bind (puts middle) (λ _. puts head))
@@ -119,7 +119,7 @@ module _ (root : Names) (x : NewObject) (objects : List NewObject) (config setti
   unfolding bind
   dataset_made =
       ap after_objects (objects_made root x objects g vacant fits clear)
-      ∙ ap (λ (a : Act (Unit {0})). go_on (made (files root (x ∷ objects) g)) (Gives tt) g (λ _ h. after_middle a)) (puts_made root middle g1 (middle_ours root config settings main) clear1)
+      ∙ ap (λ (a : Act (Unit {0})). go_on (made (files root (x ∷ objects) g)) (Gives tt) g (λ _ h. after_middle a)) (puts_made root middle g1 (middle_ours root config index settings main) clear1)
       ∙ ap (λ (a : Act (Unit {0})). go_on (made (files root (x ∷ objects) g)) (Gives tt) g (λ _ h. go_on (made middle) (Gives tt) g1 (λ _ k. a))) (puts_made root head (changed (whole_round middle) g1) (head_ours root head_text) clear2)
 
 -- THE WHOLE COMMAND
@@ -164,7 +164,7 @@ module _ (root : Names) (moment : ℕ) (fresh : List ℕ) (g : Ground) where
   create_made none =
       let parts = new_parts (new_dataset root moment fresh) in
       let three = free none in
-      ap tested none ∙ ap finished (dataset_made root _ _ parts.config parts.settings parts.main g three.0 (ltb-false repo_limit (length (text_of (repo_of root))) three.1) three.2)
+      ap tested none ∙ ap finished (dataset_made root _ _ parts.config parts.index parts.settings parts.main g three.0 (ltb-false repo_limit (length (text_of (repo_of root))) three.1) three.2)
 
   pub create_refused : (fault : Fault) → create_fault root g ≡ Some fault → create_step (new_dataset root moment fresh) g ≡ still (Refuses fault)
   unfolding bind unless
@@ -176,7 +176,7 @@ module _ (root : Names) (parts : Parts) (g : Ground) (vacant : IsVacant root g) 
   outside = IsOutside (repo_of root)
 
   abbrev files_between : List Replacement
-  files_between = middle_files root parts.config parts.settings parts.main
+  files_between = middle_files root parts.config parts.index parts.settings parts.main
 
   abbrev head_file : List Replacement
   head_file = only (tmp_place (repo_of root) 0) (head_place root) head_text
@@ -191,7 +191,7 @@ module _ (root : Names) (parts : Parts) (g : Ground) (vacant : IsVacant root g) 
 
   middle_same : (q : Names) → IsOutside (repo_of root) q
       → file_at (changed (whole_round files_between) (changed (whole_round (files root parts.objects g)) g)) q ≡ file_at (changed (round_of files_between) (changed (objects_round (repo_of root) parts.objects) g)) q
-  middle_same q out = list_same files_between (middle_ours root parts.config parts.settings parts.main) _ _ q out (objects_same q out)
+  middle_same q out = list_same files_between (middle_ours root parts.config parts.index parts.settings parts.main) _ _ q out (objects_same q out)
 
   pub last_same : (q : Names) → IsOutside (repo_of root) q → file_at (finally (whole_rounds root parts g) g) q ≡ file_at (finally (dataset_rounds root parts) g) q
   last_same q out = list_same head_file (head_ours root head_text) _ _ q out (middle_same q out)

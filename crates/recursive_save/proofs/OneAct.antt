@@ -8,7 +8,8 @@ use Rattle.git_objects.specs.All.{oid}
 use Rattle.git_objects.specs.declared.ids.Id.{Id}
 use Rattle.git_objects.specs.declared.objects.ObjKind.TheVariants.{Commit}
 use Rattle.config_text.specs.All.{config_in}
-use Rattle.acts.specs.All.{Act, Refuses, bind, ending_of, go_on, still, unless}
+use Rattle.acts.specs.All.{Act, Refuses, Step, bind, ending_of, go_on, still, unless}
+use Rattle.index_store.specs.All.{HasIndex, has, keeps_index, lacks}
 use Rattle.snapshot.specs.All.{root_id, tree_objects}
 use Rattle.snapshot.specs.declared.entries.Entry.{Entry}
 use Rattle.snapshot.proofs.Once.{paths_once}
@@ -18,17 +19,24 @@ use Rattle.tree_status.specs.declared.found.WorkingFile.{WorkingFile}
 use Rattle.tree_status.proofs.OneLook.{SameRead, not_none, read_once, some_once, unread_once, unread_or_read}
 use Rattle.recursive_save.specs.Contents.{IsKeepingOf}
 use Rattle.recursive_save.specs.Saved.{SaveIsOne}
-use Rattle.recursive_save.specs.Saving.{IsSave, IsSavePlan, SavePlan, blob_of, clash_fault, clashing, clean, kept, new_blobs}
+use Rattle.recursive_save.specs.Saving.{IsSave, IsSavePlan, SavePlan, blob_of, clash_fault, clashing, clean, dataset_line, kept, new_blobs}
 use Rattle.recursive_save.specs.Saving.{plan_fault, save_commit, save_lines, saved, saves}
-use Rattle.recursive_save.specs.Saving.{saves_contents, unplanned, unread, writes}
+use Rattle.recursive_save.specs.Saving.{saves_contents, saves_lines, unplanned, unread, writes}
 use Rattle.recursive_save.specs.declared.wishes.SaveWish.{SaveWish}
 use Rattle.recursive_save.proofs.KeepOnce.{keeping_once}
 
 -- Where two objects of a plan collide, the planned save does nothing.
-saves_clash : (root : Names) (plan : SavePlan) (keeps : Act (Unit {0})) (g : Ground) (fault : Fault) → clash_fault [] plan.objects ≡ Some fault → saves root plan keeps g ≡ still (Refuses fault)
+saves_clash : (root : Names) (index : Step (Unit {0})) (plan : SavePlan) (keeps : Act (Unit {0})) (g : Ground) (fault : Fault) → clash_fault [] plan.objects ≡ Some fault → saves root index plan keeps g ≡ still (Refuses fault)
 unfolding saves bind unless
-saves_clash root plan keeps g fault why =
-    ap (λ (o : Option Fault). go_on (still (ending_of o)) (ending_of o) g (λ _. bind (λ _. keeps) (λ _. writes root plan))) why
+saves_clash root index plan keeps g fault why =
+    ap (λ (o : Option Fault). go_on (still (ending_of o)) (ending_of o) g (λ _. bind (λ _. keeps) (λ _. writes root index plan))) why
+
+-- An index is that of a snapshot, or isn't.
+has_once : (root : Names) (list : List Entry) (g : Ground) (a b : Bool) → HasIndex root list g a → HasIndex root list g b → a ≡ b
+has_once root list g true true (has is) (has also) = refl
+has_once root list g true false (has is) (lacks not) = absurd (not is)
+has_once root list g false true (lacks not) (has is) = absurd (not is)
+has_once root list g false false (lacks not) (lacks also) = refl
 
 module _ (root : Names) (wish : SaveWish) (g : Ground) where
   -- WHAT IS READ
@@ -48,6 +56,12 @@ module _ (root : Names) (wish : SaveWish) (g : Ground) where
 
     fault_once : (fault more : Fault) → plan_fault root g a.old files ≡ Some fault → plan_fault root g b.old others ≡ Some more → fault ≡ more
     fault_once fault more some too = some_once _ fault more some (asked_once (plan_fault root g) ∙ too)
+
+    -- what is made of the index of the same list
+    index_once : (ask : List Entry → List WorkingFile → List Entry) (h k : Bool) → HasIndex root (ask a.old files) g h → HasIndex root (ask b.old others) g k → keeps_index h root (ask a.old files) ≡ keeps_index k root (ask b.old others)
+    index_once ask h k first second =
+        let alike = has_once root (ask b.old others) g h k (subst (λ (list : List Entry). HasIndex root list g h) (asked_once ask) first) second in
+        λ i. keeps_index (alike i) root (asked_once ask i)
 
     keeps_once : (k l : Act (Unit {0})) → IsKeepingOf root wish.moment g a files k → IsKeepingOf root wish.moment g b others l → k ≡ l
     keeps_once k l first second = keeping_once root wish.moment g b others k l (subst (λ (z : KeepBy). IsKeepingOf root wish.moment g z others k) same.by (subst (λ (z : List WorkingFile). IsKeepingOf root wish.moment g a z k) same.kept first)) second
@@ -96,46 +110,47 @@ module _ (root : Names) (wish : SaveWish) (g : Ground) where
 
   act_once : (one two : Act (Option Id)) → IsSave root wish g one → IsSave root wish g two → one ≡ two
   act_once _ _ (unread fault why) (unread more because) = ap (λ (f : Fault). still (Refuses f)) (unread_once root wish.to_git g fault more why because)
-  act_once _ _ (unread fault why) (clean q b others other unchanged) = absurd (no_read why other)
+  act_once _ _ (unread fault why) (clean q b others j other unchanged hasj) = absurd (no_read why other)
   act_once _ _ (unread fault why) (unplanned q b others more other changed because) = absurd (no_read why other)
-  act_once _ _ (unread fault why) (kept q b others keeps other changed alike none keep) = absurd (no_read why other)
-  act_once _ _ (unread fault why) (saved q b others plan keeps other differs none planned keep) = absurd (no_read why other)
+  act_once _ _ (unread fault why) (kept q b others keeps j other changed alike none keep hasj) = absurd (no_read why other)
+  act_once _ _ (unread fault why) (saved q b others plan keeps j other differs none planned keep hasj) = absurd (no_read why other)
   act_once _ _ (unread fault why) (clashing q b others plan more other differs none planned clash) = absurd (no_read why other)
-  act_once _ _ (clean p a files read unchanged) (unread fault why) = absurd (no_read why read)
-  act_once _ _ (clean p a files read unchanged) (clean q b others other also) = refl
-  act_once _ _ (clean p a files read unchanged) (unplanned q b others more other changed because) = absurd (not_both other read is_changed changed unchanged)
-  act_once _ _ (clean p a files read unchanged) (kept q b others keeps other changed alike none keep) = absurd (not_both other read is_changed changed unchanged)
-  act_once _ _ (clean p a files read unchanged) (saved q b others plan keeps other differs none planned keep) = absurd (not_both other read is_changed (other_changed b.old others differs) unchanged)
-  act_once _ _ (clean p a files read unchanged) (clashing q b others plan more other differs none planned clash) = absurd (not_both other read is_changed (other_changed b.old others differs) unchanged)
+  act_once _ _ (clean p a files i read unchanged hasi) (unread fault why) = absurd (no_read why read)
+  act_once _ _ (clean p a files i read unchanged hasi) (clean q b others j other also hasj) =
+      λ k. saves_lines (index_once read other (λ old list. old) i j hasi hasj k) (dataset_line (codes "notneeded") ∷ []) g
+  act_once _ _ (clean p a files i read unchanged hasi) (unplanned q b others more other changed because) = absurd (not_both other read is_changed changed unchanged)
+  act_once _ _ (clean p a files i read unchanged hasi) (kept q b others keeps j other changed alike none keep hasj) = absurd (not_both other read is_changed changed unchanged)
+  act_once _ _ (clean p a files i read unchanged hasi) (saved q b others plan keeps j other differs none planned keep hasj) = absurd (not_both other read is_changed (other_changed b.old others differs) unchanged)
+  act_once _ _ (clean p a files i read unchanged hasi) (clashing q b others plan more other differs none planned clash) = absurd (not_both other read is_changed (other_changed b.old others differs) unchanged)
   act_once _ _ (unplanned p a files fault read changed why) (unread more because) = absurd (no_read because read)
-  act_once _ _ (unplanned p a files fault read changed why) (clean q b others other unchanged) = absurd (not_both read other is_changed changed unchanged)
+  act_once _ _ (unplanned p a files fault read changed why) (clean q b others j other unchanged hasj) = absurd (not_both read other is_changed changed unchanged)
   act_once _ _ (unplanned p a files fault read changed why) (unplanned q b others more other too because) = ap (λ (f : Fault). still (Refuses f)) (fault_once read other fault more why because)
-  act_once _ _ (unplanned p a files fault read changed why) (kept q b others keeps other too alike none keep) = absurd (fault_or_none read other fault why none)
-  act_once _ _ (unplanned p a files fault read changed why) (saved q b others plan keeps other differs none planned keep) = absurd (fault_or_none read other fault why none)
+  act_once _ _ (unplanned p a files fault read changed why) (kept q b others keeps j other too alike none keep hasj) = absurd (fault_or_none read other fault why none)
+  act_once _ _ (unplanned p a files fault read changed why) (saved q b others plan keeps j other differs none planned keep hasj) = absurd (fault_or_none read other fault why none)
   act_once _ _ (unplanned p a files fault read changed why) (clashing q b others plan more other differs none planned clash) = absurd (fault_or_none read other fault why none)
-  act_once _ _ (kept p a files keeps read changed alike none keep) (unread fault why) = absurd (no_read why read)
-  act_once _ _ (kept p a files keeps read changed alike none keep) (clean q b others other unchanged) = absurd (not_both read other is_changed changed unchanged)
-  act_once _ _ (kept p a files keeps read changed alike none keep) (unplanned q b others fault other too why) = absurd (fault_or_none other read fault why none)
-  act_once _ _ (kept p a files keeps read changed alike none keep) (kept q b others more other too unchanged nothing also) =
-      λ i. saves_contents (asked_once read other (λ old list. save_lines old list (codes "notneeded")) i) (keeps_once read other keeps more keep also i) g
-  act_once _ _ (kept p a files keeps read changed alike none keep) (saved q b others plan more other differs nothing planned also) = absurd (not_both other read is_other differs alike)
-  act_once _ _ (kept p a files keeps read changed alike none keep) (clashing q b others plan fault other differs nothing planned clash) = absurd (not_both other read is_other differs alike)
-  act_once _ _ (saved p a files plan keeps read differs none planned keep) (unread fault why) = absurd (no_read why read)
-  act_once _ _ (saved p a files plan keeps read differs none planned keep) (clean q b others other unchanged) = absurd (not_both read other is_changed (other_changed a.old files differs) unchanged)
-  act_once _ _ (saved p a files plan keeps read differs none planned keep) (unplanned q b others fault other too why) = absurd (fault_or_none other read fault why none)
-  act_once _ _ (saved p a files plan keeps read differs none planned keep) (kept q b others more other too alike nothing also) = absurd (not_both read other is_other differs alike)
-  act_once _ _ (saved p a files plan keeps read differs none planned keep) (saved q b others next more other too nothing also keeping) =
-      λ i. saves root (plan_once read other planned also i) (keeps_once read other keeps more keep keeping i) g
-  act_once _ _ (saved p a files plan keeps read differs none planned keep) (clashing q b others next fault other too nothing also clash) =
-      saves_clash root plan keeps g fault (clash_once read other planned also ∙ clash)
+  act_once _ _ (kept p a files keeps i read changed alike none keep hasi) (unread fault why) = absurd (no_read why read)
+  act_once _ _ (kept p a files keeps i read changed alike none keep hasi) (clean q b others j other unchanged hasj) = absurd (not_both read other is_changed changed unchanged)
+  act_once _ _ (kept p a files keeps i read changed alike none keep hasi) (unplanned q b others fault other too why) = absurd (fault_or_none other read fault why none)
+  act_once _ _ (kept p a files keeps i read changed alike none keep hasi) (kept q b others more j other too unchanged nothing also hasj) =
+      λ k. saves_contents (index_once read other (λ old list. old) i j hasi hasj k) (asked_once read other (λ old list. save_lines old list (codes "notneeded")) k) (keeps_once read other keeps more keep also k) g
+  act_once _ _ (kept p a files keeps i read changed alike none keep hasi) (saved q b others plan more j other differs nothing planned also hasj) = absurd (not_both other read is_other differs alike)
+  act_once _ _ (kept p a files keeps i read changed alike none keep hasi) (clashing q b others plan fault other differs nothing planned clash) = absurd (not_both other read is_other differs alike)
+  act_once _ _ (saved p a files plan keeps i read differs none planned keep hasi) (unread fault why) = absurd (no_read why read)
+  act_once _ _ (saved p a files plan keeps i read differs none planned keep hasi) (clean q b others j other unchanged hasj) = absurd (not_both read other is_changed (other_changed a.old files differs) unchanged)
+  act_once _ _ (saved p a files plan keeps i read differs none planned keep hasi) (unplanned q b others fault other too why) = absurd (fault_or_none other read fault why none)
+  act_once _ _ (saved p a files plan keeps i read differs none planned keep hasi) (kept q b others more j other too alike nothing also hasj) = absurd (not_both read other is_other differs alike)
+  act_once _ _ (saved p a files plan keeps i read differs none planned keep hasi) (saved q b others next more j other too nothing also keeping hasj) =
+      λ k. saves root (index_once read other new_entries i j hasi hasj k) (plan_once read other planned also k) (keeps_once read other keeps more keep keeping k) g
+  act_once _ _ (saved p a files plan keeps i read differs none planned keep hasi) (clashing q b others next fault other too nothing also clash) =
+      saves_clash root _ plan keeps g fault (clash_once read other planned also ∙ clash)
   act_once _ _ (clashing p a files plan fault read differs none planned clash) (unread more because) = absurd (no_read because read)
-  act_once _ _ (clashing p a files plan fault read differs none planned clash) (clean q b others other unchanged) = absurd (not_both read other is_changed (other_changed a.old files differs) unchanged)
+  act_once _ _ (clashing p a files plan fault read differs none planned clash) (clean q b others j other unchanged hasj) = absurd (not_both read other is_changed (other_changed a.old files differs) unchanged)
   act_once _ _ (clashing p a files plan fault read differs none planned clash) (unplanned q b others more other too why) = absurd (fault_or_none other read more why none)
-  act_once _ _ (clashing p a files plan fault read differs none planned clash) (kept q b others keeps other too alike nothing keep) = absurd (not_both read other is_other differs alike)
+  act_once _ _ (clashing p a files plan fault read differs none planned clash) (kept q b others keeps j other too alike nothing keep hasj) = absurd (not_both read other is_other differs alike)
   act_once _ _ (clashing p a files plan fault read differs none planned clash) (clashing q b others next more other too nothing also hit) =
       ap (λ (f : Fault). still (Refuses f)) (some_once _ fault more clash (clash_once read other planned also ∙ hit))
-  act_once _ _ (clashing p a files plan fault read differs none planned clash) (saved q b others next keeps other too nothing also keep) =
-      sym (saves_clash root next keeps g fault (sym (clash_once read other planned also) ∙ clash))
+  act_once _ _ (clashing p a files plan fault read differs none planned clash) (saved q b others next keeps j other too nothing also keep hasj) =
+      sym (saves_clash root _ next keeps g fault (sym (clash_once read other planned also) ∙ clash))
 
 pub one_act : SaveIsOne
 one_act root wish g one two a b = act_once root wish g one two a b

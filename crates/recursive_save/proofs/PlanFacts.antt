@@ -14,8 +14,9 @@ use Rattle.git_objects.specs.declared.objects.ObjKind.TheVariants.{Commit}
 use Rattle.config_text.specs.All.{plain_config}
 use Rattle.config_text.specs.declared.repository.RepoConfig.{RepoConfig}
 use Rattle.repository.specs.All.{repo_of, object_limit, large}
-use Rattle.acts.specs.All.{Reads}
+use Rattle.acts.specs.All.{NoFault, Reads}
 use Rattle.acts.proofs.Reading.{read_after, read_err, read_gives, read_refuses, read_starves}
+use Rattle.index_store.specs.All.{HasIndex}
 use Rattle.object_store.specs.All.{get_fault}
 use Rattle.object_store.specs.declared.objects.NewObject.{NewObject}
 use Rattle.snapshot.specs.All.{Has, IsLeastClash}
@@ -74,6 +75,11 @@ module _ (root : Names) (g : Ground) (by : KeepBy) where
       let next = has_file files below.0 of below.1 in
       none_above (limit_by by) root g ground_is one.work next.work below.2.0 one.standing next.standing
       (sym next.path_is ∙ below.2.1 ∙ ap (λ (p : List ℕ). p ++ slash ∷ below.2.0) (sym clash.same ∙ one.path_is))
+
+-- the same snapshot by another name
+pub snapshot_as : {a b : List Entry} (r : Result Planned Trouble) → a ≡ b → IfOk r (λ planned. planned.snapshot ≡ a) → IfOk r (λ planned. planned.snapshot ≡ b)
+snapshot_as (Ok planned) is h = h ∙ is
+snapshot_as (Err e) is h = h
 
 -- FAULTS
 module _ (tells : Bool) (root : Names) where
@@ -135,8 +141,9 @@ module _ (tells : Bool) (root : Names) (wish : SaveWish) (view : View) where
             let was = (read_after {IsAnswer = λ g (objects : Vec NewObject Global). AreThere root g files → AreBlobs root g files objects.items} reads.later (λ t. (reads.told t).same) put).told t in
             (was.same, was.answer)
 
-        planned_is : (t : IsTrue tells) (planned : Planned) → IsPlanWith (plain_config config) view wish blobs.items (plan_of planned) → planned.uuid ≡ config.uuid → IsPlannedOf root wish view (present old) planned
-        planned_is t planned m own v =
+        planned_is : (t : IsTrue tells) (planned : Planned) → IsPlanWith (plain_config config) view wish blobs.items (plan_of planned) → planned.uuid ≡ config.uuid → planned.snapshot ≡ new_entries view.by.old view.files.items
+            → HasIndex root (new_entries view.by.old view.files.items) (present old) planned.indexed → IsPlannedOf root wish view (present old) planned
+        planned_is t planned m own new_is index_is v =
             let g = present old in
             let configured = (reads.told t).answer in
             let is = (both t).1 (picked_there g v) in (
@@ -157,16 +164,48 @@ module _ (tells : Bool) (root : Names) (wish : SaveWish) (view : View) where
                 parent_is = m.body.parent_is;
                 lines = m.lines;
               },
-              record { text = configured.text; config = plain_config config; stands = configured.stands; read = configured.configured; own = sym own },
+              record {
+                snapshot = new_is;
+                index = index_is;
+                uuid = record { text = configured.text; config = plain_config config; stands = configured.stands; read = configured.configured; own = sym own };
+              },
             )
 
-        pub plan_ends : (IsTrue tells → IsGround (present old)) → (r : Result Planned Trouble) → IfOk r (λ planned. IsPlanWith (plain_config config) view wish blobs.items (plan_of planned)) → IfOk r (λ planned. planned.uuid ≡ config.uuid)
-            → IfErr r (PlanFails view) → PlanReads old new r
-        plan_ends grounded (Ok planned) made own fails = read_gives stood (λ t. ((both t).0, planned_is t planned made own))
-        plan_ends grounded (Err NoMemory) made own fails = read_starves stood (λ t. (both t).0)
-        plan_ends grounded (Err (Refused (PathClash path))) made own fails =
-            let not : IsTrue tells → ⊥ = λ t.
-            no_clash root (present old) view.by view.files.items path (grounded t) (are_of root (present old) view.by wish.to_git view.parent.0 view.files.items (looked t)) fails in
-            read_refuses not stood (λ t. absurd (not t))
-        plan_ends grounded (Err (Refused fault)) made own fails = absurd fails
-        plan_ends grounded (Err Device) made own fails = absurd fails
+        -- the index
+        abbrev Indexed : Drive → Result Bool Trouble → Type 0
+        Indexed last r = Reads (λ fault. NoFault fault) tells (λ g is. HasIndex root (new_entries view.by.old view.files.items) g is) (λ g fault. ⊥) new last r
+
+        pub index_fails : {last : Drive} {e : Trouble} → Indexed last (Err e) → PlanReads old last (Err e)
+        index_fails reads = read_fails (λ fault may. absurd may) stood (λ t. (both t).0) (λ t fault none. absurd none) reads
+
+        -- the snapshot that isn't made
+        pub starved_plan : PlanReads old new (Err NoMemory)
+        starved_plan = read_starves stood (λ t. (both t).0)
+
+        module _ {last : Drive} {indexed : Bool} (reads_index : Indexed last (Ok indexed)) where
+          stood_too : last.faults ≡ old.faults
+          stood_too = omega (arith, stood, reads_index.later)
+
+          same_too : IsTrue tells → last.history ≡ old.history
+          same_too t = (reads_index.told t).same ∙ (both t).0
+
+          -- what the plan says of it
+          record SaysIndex (planned : Planned) : Type 0 where
+            snapshot : planned.snapshot ≡ new_entries view.by.old view.files.items
+            indexed_is : planned.indexed ≡ indexed
+
+          has_it : (t : IsTrue tells) (planned : Planned) → SaysIndex planned → HasIndex root (new_entries view.by.old view.files.items) (present old) planned.indexed
+          has_it t planned says =
+              subst (λ b. HasIndex root (new_entries view.by.old view.files.items) (present old) b) (sym says.indexed_is)
+              (subst (λ (g : Ground). HasIndex root (new_entries view.by.old view.files.items) g indexed) (present_is old new (both t).0) (reads_index.told t).answer)
+
+          pub plan_ends : (IsTrue tells → IsGround (present old)) → (r : Result Planned Trouble) → IfOk r (λ planned. IsPlanWith (plain_config config) view wish blobs.items (plan_of planned)) → IfOk r (λ planned. planned.uuid ≡ config.uuid)
+              → IfOk r (λ planned. planned.snapshot ≡ new_entries view.by.old view.files.items) → IfOk r (λ planned. planned.indexed ≡ indexed) → IfErr r (PlanFails view) → PlanReads old last r
+          plan_ends grounded (Ok planned) made own new_is has_is fails = read_gives stood_too (λ t. (same_too t, planned_is t planned made own new_is (has_it t planned (record { snapshot = new_is; indexed_is = has_is }))))
+          plan_ends grounded (Err NoMemory) made own new_is has_is fails = read_starves stood_too same_too
+          plan_ends grounded (Err (Refused (PathClash path))) made own new_is has_is fails =
+              let not : IsTrue tells → ⊥ = λ t.
+              no_clash root (present old) view.by view.files.items path (grounded t) (are_of root (present old) view.by wish.to_git view.parent.0 view.files.items (looked t)) fails in
+              read_refuses not stood_too (λ t. absurd (not t))
+          plan_ends grounded (Err (Refused fault)) made own new_is has_is fails = absurd fails
+          plan_ends grounded (Err Device) made own new_is has_is fails = absurd fails

@@ -1,6 +1,6 @@
 -- The acts of a save, by the parts that their rounds change.
 use Rattle.std.proofs.Common.{◌≡◌, inl, inr, ◌+◌, ℕ, Bool, true, false, cond, ◌||◌, List, [], ◌∷◌, ◌++◌, Option, Some, None, refl, sym, ap, ◌∙◌, subst}
-use Rattle.std.specs.Prelude.{codes, fold, is_some}
+use Rattle.std.specs.Prelude.{fold, is_some}
 use Rattle.std.specs.List.{AllByRecursion}
 use Rattle.places.specs.All.{Names, Ground, file_at, stands}
 use Rattle.faults.specs.declared.faults.Fault.{Fault}
@@ -8,21 +8,25 @@ use Rattle.faults.specs.declared.lines.Line.{Line}
 use Rattle.file_store.specs.All.{only, stage_block}
 use Rattle.file_store.specs.declared.replacing.Replacement.{Replacement}
 use Rattle.file_store.proofs.Consequences.{finally_other}
-use Rattle.repository.specs.All.{id_text, is_tmp, repo_head, repo_of, tip_place, tmp_place}
+use Rattle.git_objects.specs.declared.ids.Id.{Id}
+use Rattle.repository.specs.All.{id_text, index_place, is_tmp, repo_head, repo_of, tip_place}
+use Rattle.repository.specs.All.{tmp_place}
 use Rattle.repository.proofs.Unfinished.{head_firm, repo_below, repo_tmp}
-use Rattle.acts.specs.All.{Act, Gives, Refuses, bind, each, ending_of, gives, last_of, rounds_in, says, unless}
+use Rattle.acts.specs.All.{Act, Gives, Refuses, Step, bind, each, ending_of, gives, last_of, rounds_in, says, unless}
 use Rattle.acts.specs.All.{fold as fold_steps}
 use Rattle.annex_store.specs.All.{PlainNote, content_files, dirty_fault, found_in, keeps_all, log_files, puts_any, sets_notes, staged_act, stores, unkept, with_content, write_fault, firsts}
 use Rattle.annex_store.specs.declared.members.NewContent.{NewContent}
+use Rattle.index_store.specs.All.{keeps_index, sets_index, snapshot_text}
 use Rattle.object_store.specs.All.{early_fault, has_place, missing, one_object_more, place_in, puts_missing, puts_objects, puts_some, staging}
 use Rattle.object_store.specs.declared.objects.NewObject.{NewObject}
-use Rattle.ref_store.specs.All.{branch_by, given, head_given, set_fault, sets_tip, tip_at}
+use Rattle.ref_store.specs.All.{branch_by, given, head_given, long_repo, set_fault, sets_tip, tip_at}
 use Rattle.ref_store.specs.Setting.{puts_one}
+use Rattle.snapshot.specs.declared.entries.Entry.{Entry}
 use Rattle.tree_status.specs.All.{KeepBy}
 use Rattle.tree_status.specs.declared.found.WorkingFile.{WorkingFile}
 use Rattle.recursive_save.specs.Contents.{IsKeepingOf, contents}
-use Rattle.recursive_save.specs.Saving.{SavePlan, clash_fault, dataset_line, says_all, saves, saves_contents, saves_nothing, writes}
-use Rattle.recursive_save.proofs.SaveRounds.{ArePutAt, Contents, IsActOf, IsApart, Logs, Objects, Part, Tip, all_left, bind_of, no_round, object_apart, puts_of, still_of, tip_apart}
+use Rattle.recursive_save.specs.Saving.{SavePlan, clash_fault, says_all, saves, saves_contents, saves_lines, writes}
+use Rattle.recursive_save.proofs.SaveRounds.{ArePutAt, Contents, Index, IsActOf, IsApart, Logs, Objects, Part, Tip, all_left, bind_of, more_of, no_round, object_apart, puts_of, skip_of, still_of, tip_apart}
 
 -- ---- objects that are put stand nowhere yet
 
@@ -116,17 +120,35 @@ module _ (root : Names) (g : Ground) where
   unfolding gives
   given_of v h = still_of root g (Gives v) []
 
-  pub nothing_of : IsActOf root g [] (saves_nothing g)
-  unfolding saves_nothing
-  nothing_of = bind_of root g (says (dataset_line (codes "notneeded"))) (λ t. gives None) g [] [] (line_of _ g) (λ v. given_of None _)
+  -- ---- the index
 
-  -- ---- contents alone
+  set_index_of : (list : List Entry) (h : Ground) → IsActOf root g (Index ∷ []) (sets_index root list h)
+  unfolding sets_index unless
+  set_index_of list h =
+      bind_of root g (unless (λ k. long_repo repo)) (λ t. puts_one repo (index_place root) (snapshot_text list)) h [] (Index ∷ []) (still_of root g (ending_of (long_repo repo)) [])
+      (λ v. puts_of root g Index (only (tmp_place repo 0) (index_place root) (snapshot_text list)) h ((tmp_is 0, λ out. refl), tt))
 
-  pub contents_of : (lines : List Line) (keeps : Act (Unit {0})) → IsActOf root g (Contents ∷ Logs ∷ []) keeps → IsActOf root g (Contents ∷ Logs ∷ []) (saves_contents lines keeps g)
+  pub index_of : (indexed : Bool) (list : List Entry) (h : Ground) → IsActOf root g (Index ∷ []) (keeps_index indexed root list h)
+  index_of true list h = more_of root g (given_of tt h) (Index ∷ [])
+  index_of false list h = set_index_of list h
+
+  abbrev IsIndexing : Step (Unit {0}) → Type 0
+  IsIndexing index = (h : Ground) → IsActOf root g (Index ∷ []) (index h)
+
+  -- ---- no commit
+
+  pub saves_lines_of : (index : Step (Unit {0})) → IsIndexing index → (lines : List Line) (h : Ground) → IsActOf root g (Index ∷ []) (saves_lines index lines h)
+  unfolding saves_lines
+  saves_lines_of index indexes lines h =
+      bind_of root g index (λ t. bind (says_all lines) (λ u. gives None)) h (Index ∷ []) [] (indexes h)
+      (λ v. bind_of root g (says_all lines) (λ u. gives None) _ [] [] (lines_of lines _) (λ w. given_of None _))
+
+  pub contents_of : (index : Step (Unit {0})) → IsIndexing index → (lines : List Line) (keeps : Act (Unit {0})) → IsActOf root g (Contents ∷ Logs ∷ []) keeps
+      → IsActOf root g (Contents ∷ Logs ∷ Objects ∷ Tip ∷ Index ∷ []) (saves_contents index lines keeps g)
   unfolding saves_contents
-  contents_of lines keeps keeping =
-      bind_of root g (λ h. keeps) (λ t. bind (says_all lines) (λ u. gives None)) g (Contents ∷ Logs ∷ []) [] keeping
-      (λ v. bind_of root g (says_all lines) (λ u. gives None) (last_of keeps g) [] [] (lines_of lines _) (λ w. given_of None _))
+  contents_of index indexes lines keeps keeping =
+      bind_of root g (λ h. keeps) (λ t. saves_lines index lines) g (Contents ∷ Logs ∷ []) (Objects ∷ Tip ∷ Index ∷ []) keeping
+      (λ v. skip_of root g (Objects ∷ Tip ∷ []) (saves_lines_of index indexes lines (last_of keeps g)))
 
   -- ---- objects and the tip
 
@@ -176,14 +198,19 @@ module _ (root : Names) (g : Ground) where
         finally_other (rounds_in (puts_objects repo plan.objects kept_ground)) kept_ground (repo_head repo) (all_left root g (repo_head repo) (head_firm root) put.rounds (tip_apart root g Objects None (λ e. cc e), tt))
         ∙ kept_same (repo_head repo) (head_firm root) (tip_apart root g Contents None (λ e. cc e), (tip_apart root g Logs None (λ e. cc e), tt))
 
-    writes_of : IsActOf root g (Objects ∷ Tip ∷ []) (writes root plan kept_ground)
-    writes_of =
-        bind_of root g (puts_objects repo plan.objects) (λ t. bind (sets_tip repo plan.commit) (λ u. bind (says_all plan.lines) (λ w. gives (Some (record { 0 = plan.commit }))))) kept_ground (Objects ∷ []) (Tip ∷ []) put
-        (λ t. bind_of root g (sets_tip repo plan.commit) (λ u. bind (says_all plan.lines) (λ w. gives (Some (record { 0 = plan.commit })))) put_ground (Tip ∷ []) [] (tip_of plan.commit put_ground head_same)
-        (λ u. bind_of root g (says_all plan.lines) (λ w. gives (Some (record { 0 = plan.commit }))) _ [] [] (lines_of plan.lines _) (λ w. given_of _ _)))
+    module _ (index : Step (Unit {0})) (indexes : IsIndexing index) where
+      abbrev said : Step (Option Id)
+      said = bind (says_all plan.lines) (λ w. gives (Some (record { 0 = plan.commit })))
 
-    pub saves_of : IsActOf root g (Contents ∷ Logs ∷ Objects ∷ Tip ∷ []) (saves root plan keeps g)
-    unfolding saves unless
-    saves_of =
-        bind_of root g (unless (λ h. clash_fault [] plan.objects)) (λ t. bind (λ h. keeps) (λ u. writes root plan)) g [] (Contents ∷ Logs ∷ Objects ∷ Tip ∷ []) (still_of root g (ending_of (clash_fault [] plan.objects)) [])
-        (λ t. bind_of root g (λ h. keeps) (λ u. writes root plan) g (Contents ∷ Logs ∷ []) (Objects ∷ Tip ∷ []) keeping (λ u. writes_of))
+      writes_of : IsActOf root g (Objects ∷ Tip ∷ Index ∷ []) (writes root index plan kept_ground)
+      writes_of =
+          bind_of root g (puts_objects repo plan.objects) (λ t. bind (sets_tip repo plan.commit) (λ u. bind index (λ w. said))) kept_ground (Objects ∷ []) (Tip ∷ Index ∷ []) put
+          (λ t. bind_of root g (sets_tip repo plan.commit) (λ u. bind index (λ w. said)) put_ground (Tip ∷ []) (Index ∷ []) (tip_of plan.commit put_ground head_same)
+          (λ u. bind_of root g index (λ w. said) _ (Index ∷ []) [] (indexes _)
+          (λ w. bind_of root g (says_all plan.lines) (λ v. gives (Some (record { 0 = plan.commit }))) _ [] [] (lines_of plan.lines _) (λ v. given_of _ _))))
+
+      pub saves_of : IsActOf root g (Contents ∷ Logs ∷ Objects ∷ Tip ∷ Index ∷ []) (saves root index plan keeps g)
+      unfolding saves unless
+      saves_of =
+          bind_of root g (unless (λ h. clash_fault [] plan.objects)) (λ t. bind (λ h. keeps) (λ u. writes root index plan)) g [] (Contents ∷ Logs ∷ Objects ∷ Tip ∷ Index ∷ []) (still_of root g (ending_of (clash_fault [] plan.objects)) [])
+          (λ t. bind_of root g (λ h. keeps) (λ u. writes root index plan) g (Contents ∷ Logs ∷ []) (Objects ∷ Tip ∷ Index ∷ []) keeping (λ u. writes_of))

@@ -8,15 +8,17 @@ use Rattle.file_store.specs.All.{or_next, present}
 use Rattle.git_objects.specs.All.{oid}
 use Rattle.git_objects.specs.declared.ids.Id.{Id}
 use Rattle.git_objects.specs.declared.objects.ObjKind.TheVariants.{Commit}
-use Rattle.repository.specs.All.{Head, branch_place, head_in, head_of, large, object_limit, repo_head, repo_of}
+use Rattle.repository.specs.All.{Head, branch_place, head_in, head_of, index_place, large, object_limit}
+use Rattle.repository.specs.All.{repo_head, repo_of}
 use Rattle.acts.specs.All.{Act, Gives, Step, bind, each, ending_of, gives, go_on, last_of, rounds_in, says, still, unless}
 use Rattle.acts.specs.All.{fold}
 use Rattle.acts.proofs.Folds.{bind_assoc}
+use Rattle.index_store.specs.All.{keeps_index, sets_index, snapshot_text}
 use Rattle.object_store.specs.All.{early_fault, first_fault, long_fault, missing, puts_missing}
 use Rattle.object_store.specs.All.{puts_objects}
 use Rattle.object_store.specs.declared.objects.NewObject.{NewObject}
 use Rattle.ref_store.specs.All.{damaged_unless, given, head_at, head_fault, head_given, long_place}
-use Rattle.ref_store.specs.All.{sets_tip, lead_fault}
+use Rattle.ref_store.specs.All.{long_repo, puts_one, sets_tip, lead_fault}
 use Rattle.snapshot.specs.All.{IsBuilt}
 use Rattle.snapshot.specs.declared.entries.Entry.{Entry}
 use Rattle.snapshot.specs.declared.entries.Leaf.{Leaf}
@@ -26,16 +28,17 @@ use Rattle.dataset.specs.All.{saves as puts_and_sets, AreFree, IsFlatSave, IsSav
 use Rattle.dataset.specs.All.{saved_objects, IsDataset, IsSoundAt, Has, IsLeafHeld, IsWhole}
 use Rattle.dataset.proofs.Commits.{tree_full}
 use Rattle.dataset.proofs.Moments.{moments_intact, end_sound, end_settled}
-use Rattle.dataset.proofs.Refs.{is_done}
-use Rattle.dataset.proofs.Rows.{rounds_hold, rounds_last}
+use Rattle.dataset.proofs.Refs.{is_done, one_keeps}
+use Rattle.dataset.proofs.Rows.{rounds_hold, rounds_last, unwatched_keeps}
 use Rattle.dataset.proofs.Saving.{flat_save, neither, no_fault_free}
+use Rattle.dataset.proofs.Splits.{unwatched_at}
 use Rattle.dataset.proofs.Steps.{bind_keeps, none_watched, still_steps}
 use Rattle.tree_status.specs.All.{IsRead, KeepBy, leaf_at, new_entries}
 use Rattle.tree_status.specs.declared.found.WorkingFile.{WorkingFile}
 use Rattle.recursive_save.specs.Contents.{IsKeepingOf}
 use Rattle.recursive_save.specs.Saving.{IsSave, IsSavePlan, SavePlan, clash_fault, clashing, clean}
 use Rattle.recursive_save.specs.Saving.{kept, new_blobs, save_commit, save_lines, saved, saves}
-use Rattle.recursive_save.specs.Saving.{saves_contents, saves_nothing, says_all, unplanned, unread}
+use Rattle.recursive_save.specs.Saving.{saves_contents, saves_lines, says_all, unplanned, unread}
 use Rattle.recursive_save.specs.Saving.{writes}
 use Rattle.recursive_save.specs.Soundness.{SaveKeepsSound}
 use Rattle.recursive_save.specs.declared.wishes.SaveWish.{SaveWish}
@@ -50,9 +53,25 @@ unfolding fold
 says_keep [] g = (still_steps {V = Unit {0}}).gives tt g
 says_keep (line ∷ lines) g = bind_keeps (says line) (λ t. each says lines) g ((still_steps {V = Unit {0}}).says line g) (λ v is. says_keep lines _)
 
-nothing_keeps : (g : Ground) → ActKeeps (saves_nothing g) g
-unfolding saves_nothing
-nothing_keeps g = bind_keeps (says _) (λ t. gives None) g ((still_steps {V = Unit {0}}).says _ g) (λ v is. (still_steps {V = Option Id}).gives None _)
+-- THE INDEX, at which soundness doesn't look
+abbrev pub IndexKeeps : Step (Unit {0}) → Type 0
+IndexKeeps index = (g : Ground) → ActKeeps (index g) g
+
+set_index_keeps : (root : Names) → IsRoot root → (list : List Entry) → IndexKeeps (sets_index root list)
+unfolding sets_index
+set_index_keeps root outside list g =
+    bind_keeps (unless (λ h. long_repo (repo_of root))) (λ t. puts_one (repo_of root) (index_place root) (snapshot_text list)) g ((still_steps {V = Unit {0}}).unless _ g)
+    (λ v is. one_keeps root (index_place root) (snapshot_text list) _ (unwatched_keeps ((index_place root, Some (snapshot_text list)) ∷ []) _ (unwatched_at root (codes "index" ∷ []) outside refl, tt)))
+
+index_keeps : (root : Names) → IsRoot root → (indexed : Bool) (list : List Entry) → IndexKeeps (keeps_index indexed root list)
+index_keeps root outside true list g = (still_steps {V = Unit {0}}).gives tt g
+index_keeps root outside false list g = set_index_keeps root outside list g
+
+lines_keep : (index : Step (Unit {0})) → IndexKeeps index → (lines : List Line) (g : Ground) → ActKeeps (saves_lines index lines g) g
+unfolding saves_lines
+lines_keep index keep lines g =
+    bind_keeps index (λ t. bind (says_all lines) (λ u. gives None)) g (keep g)
+    (λ v is. bind_keeps (says_all lines) (λ u. gives None) _ (says_keep lines _) (λ u is. (still_steps {V = Option Id}).gives None _))
 
 -- what is refused early refuses the put
 no_first : (repo : Names) (objects : List NewObject) (g : Ground) → early_fault repo objects g ≡ None → first_fault repo objects g ≡ None
@@ -112,13 +131,11 @@ module _ (root : Names) (wish : SaveWish) (g : Ground) (outside : IsRoot root) (
       let found = old_leaf path by.old l is in
       subst (IsLeafHeld repo g) found.2 (each_listed (IsLeafHeld repo g) [] flat.tree.dir each found.0 (subst (λ (z : List Entry). Has z found.0) flat.tree.same found.1))
 
-  contents_keep : (lines : List Line) → ActKeeps (saves_contents lines keeps g) g
+  contents_keep : (index : Step (Unit {0})) → IndexKeeps index → (lines : List Line) → ActKeeps (saves_contents index lines keeps g) g
   unfolding saves_contents
-  contents_keep lines =
-      bind_keeps (λ h. keeps) (λ t. bind (says_all lines) (λ u. gives None)) g keep
-      (λ v is. bind_keeps (says_all lines) (λ u. gives None) (last_of keeps g) (says_keep lines (last_of keeps g)) (λ u is. (still_steps {V = Option Id}).gives None _))
+  contents_keep index indexes lines = bind_keeps (λ h. keeps) (λ t. saves_lines index lines) g keep (λ v is. lines_keep index indexes lines (last_of keeps g))
 
-  module _ (plan : SavePlan) (planned : IsSavePlan root wish g parent by.old files plan) (clear : clash_fault [] plan.objects ≡ None) (v : Unit {0}) (done : keeps.ending ≡ Gives v) where
+  module _ (index : Step (Unit {0})) (indexes : IndexKeeps index) (plan : SavePlan) (planned : IsSavePlan root wish g parent by.old files plan) (clear : clash_fault [] plan.objects ≡ None) (v : Unit {0}) (done : keeps.ending ≡ Gives v) where
     -- THE GROUND that the keeping leaves has the same head, and holds what was held
     abbrev h : Ground
     h = last_of keeps g
@@ -172,22 +189,28 @@ module _ (root : Names) (wish : SaveWish) (g : Ground) (outside : IsRoot root) (
         (flat_save root head blobs (new_entries by.old files) planned.trees planned.fields commit h h_sound (flat_so none)))
 
     -- THE WRITING
+    abbrev said : Step (Option Id)
+    said = bind (says_all plan.lines) (λ t. gives (Some (record { 0 = plan.commit })))
+
     abbrev rest : Step (Option Id)
-    rest = bind (says_all plan.lines) (λ t. gives (Some (record { 0 = plan.commit })))
+    rest = bind index (λ t. said)
+
+    said_keeps : (k : Ground) → ActKeeps (said k) k
+    said_keeps k = bind_keeps (says_all plan.lines) (λ t. gives (Some (record { 0 = plan.commit }))) k (says_keep plan.lines k) (λ v is. (still_steps {V = Option Id}).gives _ _)
 
     rest_keeps : (k : Ground) → ActKeeps (rest k) k
-    rest_keeps k = bind_keeps (says_all plan.lines) (λ t. gives (Some (record { 0 = plan.commit }))) k (says_keep plan.lines k) (λ v is. (still_steps {V = Option Id}).gives _ _)
+    rest_keeps k = bind_keeps index (λ t. said) k (indexes k) (λ v is. said_keeps _)
 
     abbrev written_by : Option Fault → Act (Option Id)
     written_by o = go_on (go_on (still (ending_of o)) (ending_of o) h (λ t. puts_missing repo plan.objects)) (go_on (still (ending_of o)) (ending_of o) h (λ t. puts_missing repo plan.objects)).ending h
         (λ t. bind (sets_tip repo plan.commit) (λ u. rest))
 
-    writes_kept : early_fault repo plan.objects h ≡ None → ActKeeps (writes root plan h) h
+    writes_kept : early_fault repo plan.objects h ≡ None → ActKeeps (writes root index plan h) h
     writes_kept none =
         subst (λ (a : Act (Option Id)). ActKeeps a h) (bind_assoc (puts_objects repo plan.objects) (λ t. sets_tip repo plan.commit) (λ t. rest) h)
         (bind_keeps (puts_and_sets repo plan.objects plan.commit) (λ t. rest) h (is_done root head plan.objects plan.commit h (save_on none)).keeps (λ v is. rest_keeps _))
 
-    writes_keep : ActKeeps (writes root plan h) h
+    writes_keep : ActKeeps (writes root index plan h) h
     unfolding puts_objects bind unless
     writes_keep = choose (early_fault repo plan.objects h) refl
       where
@@ -195,26 +218,29 @@ module _ (root : Names) (wish : SaveWish) (g : Ground) (outside : IsRoot root) (
         choose (Some fault) e = record { rounds = tt; loose = none_watched }
         choose None e = subst (λ (o : Option Fault). ActKeeps (written_by o) h) e (writes_kept e)
 
-  abbrev saved_by : SavePlan → Option Fault → Act (Option Id)
-  saved_by plan o = go_on (still (ending_of o)) (ending_of o) g (λ t. bind (λ k. keeps) (λ u. writes root plan))
+  module _ (index : Step (Unit {0})) (indexes : IndexKeeps index) (plan : SavePlan) (planned : IsSavePlan root wish g parent by.old files plan) where
+    abbrev saved_by : Option Fault → Act (Option Id)
+    saved_by o = go_on (still (ending_of o)) (ending_of o) g (λ t. bind (λ k. keeps) (λ u. writes root index plan))
 
-  saves_keep : (plan : SavePlan) → IsSavePlan root wish g parent by.old files plan → ActKeeps (saves root plan keeps g) g
-  unfolding saves bind unless
-  saves_keep plan planned = choose (clash_fault [] plan.objects) refl
-    where
-      choose : (o : Option Fault) → clash_fault [] plan.objects ≡ o → ActKeeps (saved_by plan o) g
-      choose (Some fault) e = record { rounds = tt; loose = none_watched }
-      choose None e =
-          let kept = bind_keeps (λ k. keeps) (λ u. writes root plan) g keep (λ v is. writes_keep plan planned e v is) in
-          record { rounds = kept.rounds; loose = kept.loose }
+    saves_keep : ActKeeps (saves root index plan keeps g) g
+    unfolding saves bind unless
+    saves_keep = choose (clash_fault [] plan.objects) refl
+      where
+        choose : (o : Option Fault) → clash_fault [] plan.objects ≡ o → ActKeeps (saved_by o) g
+        choose (Some fault) e = record { rounds = tt; loose = none_watched }
+        choose None e =
+            let kept = bind_keeps (λ k. keeps) (λ u. writes root index plan) g keep (λ v is. writes_keep index indexes plan planned e v is) in
+            record { rounds = kept.rounds; loose = kept.loose }
 
 act_keeps : (root : Names) (wish : SaveWish) (g : Ground) → IsRoot root → Sound g → (act : Act (Option Id)) → IsSave root wish g act → ActKeeps act g
 act_keeps root wish g outside sound _ (unread fault why) = record { rounds = tt; loose = none_watched }
-act_keeps root wish g outside sound _ (clean parent by files read same) = nothing_keeps g
+act_keeps root wish g outside sound _ (clean parent by files indexed read same own_index) = lines_keep _ (index_keeps root outside indexed by.old) _ g
 act_keeps root wish g outside sound _ (unplanned parent by files fault read changed why) = record { rounds = tt; loose = none_watched }
 act_keeps root wish g outside sound _ (clashing parent by files plan fault read other none planned clash) = record { rounds = tt; loose = none_watched }
-act_keeps root wish g outside sound _ (kept parent by files keeps read changed same none keeping) = contents_keep root wish g outside sound parent by files read keeps keeping (save_lines by.old files (codes "notneeded"))
-act_keeps root wish g outside sound _ (saved parent by files plan keeps read other none planned keeping) = saves_keep root wish g outside sound parent by files read keeps keeping plan planned
+act_keeps root wish g outside sound _ (kept parent by files keeps indexed read changed same none keeping own_index) =
+    contents_keep root wish g outside sound parent by files read keeps keeping _ (index_keeps root outside indexed by.old) (save_lines by.old files (codes "notneeded"))
+act_keeps root wish g outside sound _ (saved parent by files plan keeps indexed read other none planned keeping own_index) =
+    saves_keep root wish g outside sound parent by files read keeps keeping _ (index_keeps root outside indexed (new_entries by.old files)) plan planned
 
 pub save_sound : SaveKeepsSound
 save_sound root wish act old new can is =

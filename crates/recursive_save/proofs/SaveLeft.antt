@@ -11,9 +11,9 @@ use Rattle.places.proofs.Above.{is_above-complete}
 use Rattle.places.proofs.Grounds.{cases_place}
 use Rattle.file_store.specs.All.{Round, changed, finally, present}
 use Rattle.file_store.specs.All.{WasOpen, IsAlong, IsBetween, Along, still, here, there}
-use Rattle.file_store.proofs.Consequences.{AllLeave, each_place, finally_other, image_along, never, now_along}
+use Rattle.file_store.proofs.Consequences.{AllLeave, each_place, finally_other, image_along, never, now_along, once_of}
 use Rattle.file_store.proofs.Moments.{weaken}
-use Rattle.file_store.proofs.Rounds.{LeftBy, changed_other}
+use Rattle.file_store.proofs.Rounds.{LeftBy, changed_other, finally-append}
 use Rattle.git_objects.specs.All.{hex_of, IsId, oid, text_of_object}
 use Rattle.git_objects.specs.declared.ids.Id.{Id}
 use Rattle.git_objects.specs.declared.objects.ObjKind.{ObjKind}
@@ -21,8 +21,8 @@ use Rattle.git_objects.specs.declared.objects.ObjKind.TheVariants.{Blob, Tree, C
 use Rattle.git_objects.proofs.HeadLines.{own_digits}
 use Rattle.annex_keys.specs.All.{PlainKey, hash_dir, key_front, key_text}
 use Rattle.annex_keys.proofs.Readings.{key_text_parts}
-use Rattle.repository.specs.All.{Head as Led, id_in, id_text, is_tmp, object_place, repo_of}
-use Rattle.repository.specs.All.{repo_head, branch_place, tip_place, head_of}
+use Rattle.repository.specs.All.{Head as Led, id_in, id_text, index_place, is_tmp, object_place}
+use Rattle.repository.specs.All.{repo_head, repo_of, branch_place, tip_place, head_of}
 use Rattle.repository.proofs.Heading.{how_read}
 use Rattle.repository.proofs.HeadTexts.{id_in-only}
 use Rattle.repository.proofs.Holds.{held_is}
@@ -33,13 +33,13 @@ use Rattle.ref_store.specs.All.{branch_by, head_at, tip_at}
 use Rattle.ref_store.proofs.Keeping.{branch_is}
 use Rattle.ref_store.proofs.Leading.{same_branch}
 use Rattle.dataset.proofs.Ids.{oid_is_id}
-use Rattle.tree_status.specs.All.{IsRead, KeepBy}
+use Rattle.tree_status.specs.All.{IsRead, KeepBy, new_entries}
 use Rattle.tree_status.specs.declared.found.WorkingFile.{WorkingFile}
-use Rattle.recursive_save.specs.Saved.{SaveKeeps, SaveRemains}
+use Rattle.recursive_save.specs.Saved.{OrOldIndex, SaveKeeps, SaveRemains}
 use Rattle.recursive_save.specs.Saving.{IsSave, clashing, clean, kept, saved, unplanned, unread}
 use Rattle.recursive_save.specs.declared.wishes.SaveWish.{SaveWish}
-use Rattle.recursive_save.proofs.SaveActs.{contents_of, keeping_of, nothing_of, saves_of}
-use Rattle.recursive_save.proofs.SaveRounds.{AreOf, AreOwn, Contents, IsActOf, IsApart, IsOf, IsRoundOf, Logs, Objects, Part, Tip, at_most_once, ended, left_or_of, more_of, skips, takes, tip_apart}
+use Rattle.recursive_save.proofs.SaveActs.{contents_of, index_of, keeping_of, saves_lines_of, saves_of}
+use Rattle.recursive_save.proofs.SaveRounds.{AreOf, AreOwn, Contents, Index, IsActOf, IsApart, IsOf, IsRoundOf, Logs, Objects, Part, Tip, all_left, at_most_once, left_or_of, skip_of, skips, takes, tip_apart}
 
 -- ---- the tip's file is no object
 
@@ -121,6 +121,16 @@ content_no_object root other key id is e =
 log_no_object : (root other : Names) (key : PlainKey) (id : List ℕ) → IsId id → log_place (repo_of root) key ≢ object_place other id
 log_no_object root other key id is e = no_object_name (repo_of root) (codes "annex" ∷ codes "logs" ∷ pieces (hash_dir key)) other key (codes ".log") id is e
 
+index_no_object : (root other : Names) (id : List ℕ) → IsId id → index_place root ≢ object_place other id
+index_no_object root other id is e =
+    let digits = hex_of id in
+    let last : codes "index" ≡ drop 2 digits =
+    sym (last_is (repo_of root) (codes "index"))
+    ∙ ap last_name (e ∙ sym (append_assoc other (codes "objects" ∷ take 2 digits ∷ []) (drop 2 digits ∷ [])))
+    ∙ last_is (other ++ codes "objects" ∷ take 2 digits ∷ []) (drop 2 digits) in
+    let no : Digit 105 = All-head Digit 105 (codes "ndex") (subst (λ (z : List ℕ). All Digit z) (sym last) (All-drop Digit 2 digits (own_digits id is).each)) in
+    cc no
+
 -- ---- the last round: a place that it alone changes is new only where all is new
 
 module _ (IsSaid : Names → Type 0) (Else : Names → Option (List ℕ) → Type 0) (x : Ground) (p : Names) (said : IsSaid p) (last : Round) (others : (q : Names) → IsSaid q → q ≢ p → LeftBy last q) where
@@ -158,36 +168,83 @@ module _ (IsSaid : Names → Type 0) (Else : Names → Option (List ℕ) → Typ
       (λ all. inr all)
       (new_last front left.1 (changed round g) along)
 
--- ---- rounds of which the last may change the tip
+-- ---- rounds that come behind, and change one place alone
 
--- rounds leave the tip alone, or they end in one that changes only places of it
-abbrev Ends : Names → Ground → Names → List Round → Type 0
-Ends root g tip rounds =
-    AllLeave rounds tip
-    ⊎ ((front : List Round) × (last : Round) × (rounds ≡ front ++ last ∷ []) × AllLeave front tip × IsRoundOf root g Tip last)
+module _ (IsSaid : Names → Type 0) (Else : Names → Option (List ℕ) → Type 0) (x : Ground) (i : Names) where
+  -- anything may stand there
+  abbrev pub Free : Names → Option (List ℕ) → Type 0
+  Free q v = Else q v ⊎ (q ≡ i)
 
-module _ (root : Names) (g : Ground) (tip : Names) (out : is_tmp tip ≡ false) where
-  pub split_last : (parts : List Part) → IsApart root g parts tip → (rounds : List Round) → AreOf root g (parts ++ Tip ∷ []) rounds → Ends root g tip rounds
-  split_last [] apart rounds (skips ended) = inl tt
-  split_last [] apart rounds (takes {round = round} is ended) = inr ([], round, refl, tt, is)
+  abbrev LiesFree : Ground → Ground → Type 0
+  LiesFree a b = IsBetween IsSaid Free a b x
+
+  freer : (a b : Ground) → IsBetween IsSaid Else a b x → LiesFree a b
+  freer a b lies = record {
+    places = λ q at. ⊎_elim (λ old. inl old) (λ rest. ⊎_elim (λ new. inr (inl new)) (λ other. inr (inr (inl other))) rest) (lies.places q at);
+  }
+
+  module _ (back : List Round) (others : (q : Names) → IsSaid q → q ≢ i → AllLeave back q) where
+    behind : (g : Ground) → IsAlong IsSaid Else g back x → LiesFree g g
+    behind g along = record {
+      places = λ q at. elim (cases_place q i) [
+        | inl is ↦ inr (inr (inr is))
+        | inr differ ↦
+            let left = others q at differ in
+            ⊎_elim (λ old. inl old) (λ rest. ⊎_elim (λ new. inl (new ∙ finally_other back g q left)) (λ other. inr (inr (inl other))) rest)
+            (each_place IsSaid Else x q at (once_of back q left) along)
+      ];
+    }
+
+    -- without them
+    pub shorter : (front : List Round) (g : Ground) → IsAlong IsSaid Else g (front ++ back) x → Along LiesFree g front
+    shorter [] g along = still (behind g along)
+    shorter (round ∷ front) g (still lies) = still (freer g g lies)
+    shorter (round ∷ front) g (here lies) = here (freer g (changed round g) lies)
+    shorter (round ∷ front) g (there along) = there (shorter front (changed round g) along)
+
+-- ---- rounds of which the last but one may change the tip
+
+-- rounds that end in one that changes only places of the tip, and in one of the index or none
+record IsSplit (root : Names) (g : Ground) (tip : Names) (rounds : List Round) : Type 0 where
+  front : List Round
+  last : Round
+  back : List Round
+  is : rounds ≡ (front ++ last ∷ []) ++ back
+  left : AllLeave front tip
+  tips : IsRoundOf root g Tip last
+  index : AreOf root g (Index ∷ []) back
+
+module _ (root : Names) (g : Ground) (tip : Names) (out : is_tmp tip ≡ false) (no_index : IsApart root g (Index ∷ []) tip) where
+  split_last : (parts : List Part) → IsApart root g parts tip → (rounds : List Round) → AreOf root g (parts ++ Tip ∷ Index ∷ []) rounds → AllLeave rounds tip ⊎ IsSplit root g tip rounds
+  split_last [] apart rounds (skips rest) = inl (all_left root g tip out rest no_index)
+  split_last [] apart rounds (takes {round = round} {rounds = others} is rest) =
+      inr (record { front = []; last = round; back = others; is = refl; left = tt; tips = is; index = rest })
   split_last (part ∷ parts) apart rounds (skips rest) = split_last parts apart.1 rounds rest
   split_last (part ∷ parts) apart rounds (takes {round = round} {rounds = others} is rest) =
       let left : LeftBy round tip = ⊎_elim (λ l. l) (λ at. absurd (apart.0 at)) (is tip out) in
       elim (split_last parts apart.1 others rest) [
         | inl all ↦ inl (left, all)
-        | inr found ↦ inr (round ∷ found.0, found.1, ap (λ (rs : List Round). round ∷ rs) found.2, (left, found.3), found.4)
+        | inr found ↦ inr (record {
+          front = round ∷ found.front;
+          last = found.last;
+          back = found.back;
+          is = ap (λ (rs : List Round). round ∷ rs) found.is;
+          left = (left, found.left);
+          tips = found.tips;
+          index = found.index;
+        })
       ]
 
 -- ---- one act
 
 -- the parts of a save
 abbrev all_parts : List Part
-all_parts = Contents ∷ Logs ∷ Objects ∷ Tip ∷ []
+all_parts = Contents ∷ Logs ∷ Objects ∷ Tip ∷ Index ∷ []
 
 own_parts : AreOwn all_parts
 own_parts = (
-  ((λ e. cc e), ((λ e. cc e), ((λ e. cc e), tt))),
-  (((λ e. cc e), ((λ e. cc e), tt)), (((λ e. cc e), tt), (tt, tt))),
+  ((λ e. cc e), ((λ e. cc e), ((λ e. cc e), ((λ e. cc e), tt)))),
+  (((λ e. cc e), ((λ e. cc e), ((λ e. cc e), tt))), (((λ e. cc e), ((λ e. cc e), tt)), (((λ e. cc e), tt), (tt, tt)))),
 )
 
 module _ (root : Names) (Else : Names → Option (List ℕ) → Type 0) (g x : Ground) (loose : Names → Bool) (firmly : (q : Names) → is_tmp q ≡ false → loose q ≡ false) where
@@ -207,7 +264,7 @@ module _ (root : Names) (Else : Names → Option (List ℕ) → Type 0) (g x : G
       record {
         outside = λ q at out. same q at;
         places = λ q at. ⊎_elim (λ old. inl old) (λ other. inr (inr other)) (same q at);
-        tip = λ place is at. inl (same place at);
+        tip = λ place is at. inl (⊎_elim (λ old. inl old) (λ other. inr (inl other)) (same place at));
         held = λ repo id kind body at held. ⊎_elim
             (λ old. inl (record { stands = old ∙ held.stands; named = held.named }))
             (λ other. inr other)
@@ -236,6 +293,7 @@ module _ (root : Names) (Else : Names → Option (List ℕ) → Type 0) (g x : G
         below Logs q (key, at) = (codes "annex", codes "logs" ∷ (pieces (hash_dir key) ++ log_name key ∷ []), at)
         below Objects q (y, gone, at) = (codes "objects", take 2 (hex_of (oid y.kind y.body)) ∷ drop 2 (hex_of (oid y.kind y.body)) ∷ [], at)
         below Tip q at = subst (IsAbove repo) (sym at) (tip_below (branch_by (head_at repo g)))
+        below Index q at = (codes "index", [], at)
 
     -- where an object is held, nothing changes
     no_change : (other : Names) (id : List ℕ) (kind : ObjKind) (body : List ℕ) → IsId id → file_at g (object_place other id) ≡ Some (text_of_object kind body) → (part : Part) → IsOf root g part (object_place other id) → ⊥
@@ -245,6 +303,7 @@ module _ (root : Names) (Else : Names → Option (List ℕ) → Type 0) (g x : G
     no_change other id kind body is stands Tip at =
         let same : text_of_object kind body ≡ named.text = cc (sym stands ∙ ap (file_at g) at ∙ named.stands) in
         id_no_object named.id kind body named.whole (same ∙ (id_in-only named.text named.id named.named).0)
+    no_change other id kind body is stands Index at = index_no_object root other id is (sym at)
 
     abbrev Goes : Type 0
     Goes = IsAlong (λ q. IsSaid q) Else g rounds x
@@ -261,20 +320,58 @@ module _ (root : Names) (Else : Names → Option (List ℕ) → Type 0) (g x : G
     other_tip branch differ Contents at = tip_apart root g Contents branch (λ e. cc e) at
     other_tip branch differ Logs at = tip_apart root g Logs branch (λ e. cc e) at
     other_tip branch differ Objects at = tip_apart root g Objects branch (λ e. cc e) at
+    other_tip branch differ Index at = tip_apart root g Index branch (λ e. cc e) at
 
-    as_new : (end : Ground) → ((file_at x tip ≡ file_at g tip) ⊎ Else tip (file_at x tip)) ⊎ ((q : Names) → IsSaid q → (file_at x q ≡ file_at end q) ⊎ Else q (file_at x q)) → NewWithAll Else tip g end x
-    as_new end (inl old) = inl old
-    as_new end (inr all) = inr (λ q at. all q (firm q at))
+    abbrev Later : Names → Option (List ℕ) → Type 0
+    Later = OrOldIndex root g Else
 
-    -- the tip is as it was, or all is new
-    tip_last : Goes → IsFixed tip → NewWithAll Else tip g (finally rounds g) x
-    tip_last along at = elim (split_last root g tip at.outside (Contents ∷ Logs ∷ Objects ∷ []) others rounds of) [
-      | inl left ↦ inl (unchanged along tip at left)
-      | inr found ↦
-          let only_tip : (q : Names) → IsSaid q → q ≢ tip → LeftBy found.1 q = λ q said differ. ⊎_elim (λ left. left) (λ is. absurd (differ is)) (found.4 q said.outside) in
-          subst (λ (rs : List Round). NewWithAll Else tip g (finally rs g) x) (sym found.2)
-          (as_new (finally (found.0 ++ found.1 ∷ []) g)
-          (new_last (λ q. IsSaid q) Else x tip (firm tip at) found.1 only_tip found.0 found.3 g (subst (λ (rs : List Round). IsAlong (λ q. IsSaid q) Else g rs x) found.2 along)))
+    or_else : (q : Names) → (file_at x q ≡ file_at g q) ⊎ Else q (file_at x q) → NewWithAll Later q g (finally rounds g) x
+    or_else q same = inl (⊎_elim (λ old. inl old) (λ other. inr (inl other)) same)
+
+    no_index : IsApart root g (Index ∷ []) tip
+    no_index = (tip_apart root g Index branch (λ e. cc e), tt)
+
+    -- where the last round but that of the index changes the tip
+    module _ (along : Goes) (at : IsFixed tip) (split : IsSplit root g tip rounds) where
+      abbrev front : List Round
+      front = split.front ++ split.last ∷ []
+
+      others : (q : Names) → IsSaid q → q ≢ index_place root → AllLeave split.back q
+      others q said differ = all_left root g q said.outside split.index (differ, tt)
+
+      only_tip : (q : Names) → IsSaid q → q ≢ tip → LeftBy split.last q
+      only_tip q said differ = ⊎_elim (λ left. left) (λ is. absurd (differ is)) (split.tips q said.outside)
+
+      abbrev FreeThere : Names → Option (List ℕ) → Type 0
+      FreeThere = Free (λ q. IsSaid q) Else x (index_place root)
+
+      shortly : Along (λ a b. IsBetween (λ q. IsSaid q) FreeThere a b x) g front
+      shortly = shorter (λ q. IsSaid q) Else x (index_place root) split.back others front g (subst (λ (rs : List Round). IsAlong (λ q. IsSaid q) Else g rs x) split.is along)
+
+      end_same : (q : Names) → IsSaid q → q ≢ index_place root → file_at (finally front g) q ≡ file_at (finally rounds g) q
+      end_same q said differ =
+          sym (finally_other split.back (finally front g) q (others q said differ))
+          ∙ ap (λ (h : Ground). file_at h q) (sym (finally-append front split.back g) ∙ ap (λ (rs : List Round). finally rs g) (sym split.is))
+
+      all_new : ((q : Names) → IsSaid q → (file_at x q ≡ file_at (finally front g) q) ⊎ FreeThere q (file_at x q)) → NewWithAll Later tip g (finally rounds g) x
+      all_new all = inr (λ q fixed. elim (cases_place q (index_place root)) [
+        | inl is ↦ ⊎_elim (λ old. inr (inr (is, old))) (λ rest. ⊎_elim (λ new. inl new) (λ other. inr (inl other)) rest) (each along q fixed)
+        | inr differ ↦
+            let said = firm q fixed in
+            ⊎_elim (λ new. inl (new ∙ end_same q said differ)) (λ free. ⊎_elim (λ other. inr (inl other)) (λ is. absurd (differ is)) free) (all q said)
+      ])
+
+      tip_split : NewWithAll Later tip g (finally rounds g) x
+      tip_split = elim (new_last (λ q. IsSaid q) FreeThere x tip (firm tip at) split.last only_tip split.front split.left g shortly) [
+        | inl old ↦ or_else tip (⊎_elim (λ same. inl same) (λ free. ⊎_elim (λ other. inr other) (λ is. absurd (no_index.0 is)) free) old)
+        | inr all ↦ all_new all
+      ]
+
+    -- the tip is as it was, or all is new but for the index
+    tip_last : Goes → IsFixed tip → NewWithAll Later tip g (finally rounds g) x
+    tip_last along at = elim (split_last root g tip at.outside no_index (Contents ∷ Logs ∷ Objects ∷ []) others rounds of) [
+      | inl left ↦ or_else tip (unchanged along tip at left)
+      | inr split ↦ tip_split along at split
     ]
       where
         others : IsApart root g (Contents ∷ Logs ∷ Objects ∷ []) tip
@@ -288,8 +385,8 @@ module _ (root : Names) (Else : Names → Option (List ℕ) → Type 0) (g x : G
           (left_or_of root g q at.outside of);
       places = each along;
       tip = λ place is at. elim (cases_place place tip) [
-        | inl same ↦ subst (λ (z : Names). NewWithAll Else z g (finally rounds g) x) (sym same) (tip_last along (subst (λ (z : Names). IsFixed z) same at))
-        | inr differ ↦ inl (⊎_elim
+        | inl same ↦ subst (λ (z : Names). NewWithAll Later z g (finally rounds g) x) (sym same) (tip_last along (subst (λ (z : Names). IsFixed z) same at))
+        | inr differ ↦ or_else place (⊎_elim
             (λ left. unchanged along place at left)
             (λ found. absurd (other_tip is.0 (λ e. differ (is.2 ∙ e)) found.0 (subst (IsOf root g found.0) is.2 found.1)))
             (left_or_of root g place at.outside of))
@@ -314,13 +411,15 @@ module _ (Else : Names → Option (List ℕ) → Type 0) (g x : Ground) (root : 
 
   pub remains : (wish : SaveWish) (act : Act (Option Id)) → IsSave root wish g act → Left act
   remains wish _ (unread fault why) = nothing_left root Else g x (λ q. false) (λ q out. refl)
-  remains wish _ (clean parent by files read same) = of_parts _ (names_id root wish.to_git g parent by files read) (more_of root g (nothing_of root g) all_parts)
+  remains wish _ (clean parent by files indexed read same own_index) =
+      of_parts _ (names_id root wish.to_git g parent by files read) (skip_of root g (Contents ∷ Logs ∷ Objects ∷ Tip ∷ []) (saves_lines_of root g _ (index_of root g indexed by.old) _ g))
   remains wish _ (unplanned parent by files fault read some why) = nothing_left root Else g x (λ q. false) (λ q out. refl)
-  remains wish _ (kept parent by files keeps read some same none keeping) =
-      of_parts _ (names_id root wish.to_git g parent by files read) (more_of root g (contents_of root g _ keeps (keeping_of root g wish.moment by files keeps keeping)) (Objects ∷ Tip ∷ []))
+  remains wish _ (kept parent by files keeps indexed read some same none keeping own_index) =
+      of_parts _ (names_id root wish.to_git g parent by files read) (contents_of root g _ (index_of root g indexed by.old) _ keeps (keeping_of root g wish.moment by files keeps keeping))
   remains wish _ (clashing parent by files plan fault read other none planned clash) = nothing_left root Else g x (λ q. false) (λ q out. refl)
-  remains wish _ (saved parent by files plan keeps read other none planned keeping) =
-      of_parts _ (names_id root wish.to_git g parent by files read) (saves_of root g plan keeps (keeping_of root g wish.moment by files keeps keeping))
+  remains wish _ (saved parent by files plan keeps indexed read other none planned keeping own_index) =
+      of_parts _ (names_id root wish.to_git g parent by files read)
+      (saves_of root g plan keeps (keeping_of root g wish.moment by files keeps keeping) _ (index_of root g indexed (new_entries by.old files)))
 
 -- at every moment: what stands, and what a crash leaves
 pub each_moment : SaveKeeps

@@ -1,4 +1,4 @@
--- The rounds of a save by what they change: contents, then logs, then objects, then the tip, each in one round or none.
+-- The rounds of a save by what they change: contents, then logs, then objects, then the tip, then the index, each in one round or none.
 use Rattle.std.proofs.Common.{◌≡◌, ◌≢◌, ◌⊎◌, inl, inr, ⊎_elim, ℕ, Bool, true, false, cond, ◌||◌, List, [], ◌∷◌, ◌++◌, Option, Some, None, refl, sym, ap, ◌∙◌, subst}
 use Rattle.std.specs.Prelude.{bytes_eq, codes, map}
 use Rattle.std.specs.List.{AllByRecursion}
@@ -12,7 +12,7 @@ use Rattle.file_store.proofs.Consequences.{AllLeave, AtMostOnce, never, not_here
 use Rattle.file_store.proofs.Rounds.{LeftBy}
 use Rattle.git_objects.specs.All.{hex_of, oid}
 use Rattle.annex_keys.specs.All.{PlainKey}
-use Rattle.repository.specs.All.{is_tmp, repo_of, tip_place}
+use Rattle.repository.specs.All.{index_place, is_tmp, repo_of, tip_place}
 use Rattle.repository.specs.All.{object_names as names_of_object}
 use Rattle.acts.specs.All.{Act, Breaks, Ending, Gives, Refuses, Step, bind, go_on, last_of, puts, rounds_in, whole_round}
 use Rattle.acts.specs.Acts.{still}
@@ -29,6 +29,7 @@ pub data Part : Type 0 where
   Logs : Part
   Objects : Part
   Tip : Part
+  Index : Part
 
 -- a place is of a part of a save that begins on this ground
 abbrev pub IsOf : Names → Ground → Part → Names → Type 0
@@ -36,13 +37,14 @@ IsOf root g Contents q = (key : PlainKey) × (q ≡ content_place (repo_of root)
 IsOf root g Logs q = (key : PlainKey) × (q ≡ log_place (repo_of root) key)
 IsOf root g Objects q = (x : NewObject) × (file_at g (place_in (repo_of root) x) ≡ None) × (q ≡ place_in (repo_of root) x)
 IsOf root g Tip q = q ≡ tip_at (repo_of root) g
+IsOf root g Index q = q ≡ index_place root
 
 -- ---- each place is of one part
 
 -- by its names in the repository
 part_in : Names → Part
 part_in [] = Tip
-part_in (n ∷ []) = Tip
+part_in (n ∷ []) = cond (bytes_eq n (codes "index")) Index Tip
 part_in (n ∷ m ∷ names) =
     cond (bytes_eq n (codes "annex")) (cond (bytes_eq m (codes "logs")) Logs Contents) (cond (bytes_eq n (codes "objects")) Objects Tip)
 
@@ -101,6 +103,7 @@ module _ (root : Names) (g : Ground) where
   named Tip q at =
       let tip = tip_names (branch_by (head_at (repo_of root) g)) in
       record { names = tip.names; place = at ∙ tip.place; is = tip.is }
+  named Index q at = record { names = codes "index" ∷ []; place = at; is = refl }
 
   one_name : (one two : Part) (q : Names) → Named one q → Named two q → one ≡ two
   one_name one two q a b = sym a.is ∙ ap part_in (same_rest (repo_of root) a.names b.names (sym a.place ∙ b.place)) ∙ b.is
@@ -170,6 +173,13 @@ module _ (root : Names) (g : Ground) where
 
   pub more_of : {V : Type 0} {act : Act V} {parts : List Part} → IsActOf root g parts act → (more : List Part) → IsActOf root g (parts ++ more) act
   more_of of more = record { rounds = more_parts of.rounds more; firm = of.firm }
+
+  skip_parts : {parts : List Part} {rounds : List Round} (front : List Part) → AreOf root g parts rounds → AreOf root g (front ++ parts) rounds
+  skip_parts [] of = of
+  skip_parts (part ∷ front) of = skips (skip_parts front of)
+
+  pub skip_of : {V : Type 0} {act : Act V} {parts : List Part} (front : List Part) → IsActOf root g parts act → IsActOf root g (front ++ parts) act
+  skip_of front of = record { rounds = skip_parts front of.rounds; firm = of.firm }
 
   pub still_of : {V : Type 0} (ending : Ending V) (parts : List Part) → IsActOf root g parts (still ending)
   still_of ending parts = record { rounds = no_round parts; firm = λ q out. refl }

@@ -18,13 +18,14 @@ use Rattle.config_text.specs.All.{plain_config}
 use Rattle.config_text.specs.declared.repository.RepoConfig.{RepoConfig}
 use Rattle.repository.specs.All.{repo_of, repo_head, is_repo}
 use Rattle.repository.proofs.Unfinished.{repo_below}
-use Rattle.acts.specs.All.{Act, Acts, ActsAs, ActsQuietly, Breaks, Ending, EndsRefused, Gives, Goes, HasCause}
-use Rattle.acts.specs.All.{Reads, Refuses, Step, bind, gives}
-use Rattle.acts.proofs.Laws.{seq, handed, by_name, done, pushed, passes, quiet, after_reading}
+use Rattle.acts.specs.All.{Act, Acts, ActsAs, ActsQuietly, Breaks, Ending, EndsRefused, Gives, Goes, HasCause, NoFault}
+use Rattle.acts.specs.All.{Reads, Refuses, Step, bind}
+use Rattle.acts.proofs.Laws.{seq, fails, handed, by_name, done, passes, quiet, after_reading}
 use Rattle.acts.proofs.Folds.{said_each}
 use Rattle.acts.proofs.As.{as_allowed, as_starved, as_refused, as_unread}
 use Rattle.annex_store.specs.All.{AreOutside, IsKeepAll, KeepAllEnds, MayKeepAll, MayKeepMember}
 use Rattle.annex_store.specs.declared.members.NewContent.{NewContent}
+use Rattle.index_store.specs.All.{HasIndex, MaySetIndex, keeps_index}
 use Rattle.object_store.specs.All.{IsFoundAmong, MayPut, object_text, puts_objects, IsFound}
 use Rattle.object_store.specs.declared.objects.NewObject.{NewObject}
 use Rattle.ref_store.specs.All.{damaged_unless, head_at, sets_tip, lead_fault, MaySetTip}
@@ -39,7 +40,7 @@ use Rattle.recursive_save.specs.Contents.{ContentsFail, HaveSources, contents}
 use Rattle.recursive_save.specs.Planned.{IsPlannedOf, IsPlanRefusal, MayPlan, plan_of}
 use Rattle.recursive_save.specs.Saving.{MaySave, IsSave, IsWritten, SavePlan, unread, clashing, clean, unplanned, kept, saved}
 use Rattle.recursive_save.specs.Saving.{blobs_in, clash_with, clash_fault, dataset_line, plan_fault, save_lines}
-use Rattle.recursive_save.specs.Saving.{saves, saves_contents, saves_nothing, says_all, settings_fault, sum_fault}
+use Rattle.recursive_save.specs.Saving.{saves, saves_contents, saves_lines, settings_fault, sum_fault}
 use Rattle.recursive_save.specs.Saving.{writes}
 use Rattle.recursive_save.specs.declared.planning.Planned.{Planned}
 use Rattle.recursive_save.specs.declared.wishes.SaveWish.{SaveWish}
@@ -113,6 +114,11 @@ tip_may tells root (TooLarge path size) (inr over) = inr (inr (inr (inr over)))
 tip_may tells root (Blocked at) may = may
 tip_may tells root fault may = absurd may
 
+index_may : (tells : Bool) (root : Names) (fault : Fault) → MaySetIndex tells root fault → MaySave tells root fault
+index_may tells root (TooLarge path size) may = inr (inr (inr (inr may)))
+index_may tells root (Blocked at) may = may
+index_may tells root fault may = absurd may
+
 -- THE WRITING of a plan
 module _ (tells : Bool) (root : Names) where
   abbrev pub Writing : {V : Type 0} → Step V → List Line → List Line → Drive → Drive → Result V Trouble → Type 0
@@ -132,6 +138,27 @@ module _ (tells : Bool) (root : Names) where
   sets_it {repo} id at acts =
       quiet (handed (λ fault may. tip_may tells root fault (subst (λ (p : Names). MaySetTip tells p fault) at may))
       (by_name (λ i. sets_tip (at i) id) (acts (ap is_repo at ∙ repo_below root))))
+
+  -- the index
+  pub indexes_it : (indexed : Bool) {given list : List Entry} {l : List Line} {old new : Drive} {r : Result (Unit {0}) Trouble} → given ≡ list
+      → ActsQuietly (λ fault. MaySetIndex tells root fault) tells (keeps_index indexed root given) old new r → Writing (keeps_index indexed root list) l l old new r
+  indexes_it indexed is acts = quiet (handed (λ fault may. index_may tells root fault may) (by_name (λ i. keeps_index indexed root (is i)) acts))
+
+  -- lines that are said after it
+  pub says_then : {index : Step (Unit {0})} (lines : List Line) {l m : List Line} {old new : Drive} → Writing index l l old new (Ok tt) → m ≡ l ++ lines → Writing (saves_lines index lines) l m old new (Ok None)
+  unfolding saves_lines
+  says_then lines indexing said = seq _ indexing (seq _ (said_each lines said) done)
+
+  pub not_indexed : {index : Step (Unit {0})} (lines : List Line) {l : List Line} {old new : Drive} {e : Trouble} → Writing index l l old new (Err e) → Writing (saves_lines index lines) l l old new (Err e)
+  unfolding saves_lines
+  not_indexed lines indexing = fails _ indexing
+
+-- whether the index is that of a list, read where nothing has been written
+abbrev pub Indexed : Bool → Names → List Entry → Drive → Drive → Result Bool Trouble → Type 0
+Indexed tells root entries d0 d1 r = Reads (λ fault. NoFault fault) tells (λ g is. HasIndex root entries g is) (λ g fault. ⊥) d0 d1 r
+
+pub of_list : {tells : Bool} {root : Names} {given list : List Entry} {d0 d1 : Drive} {r : Result Bool Trouble} → given ≡ list → Indexed tells root given d0 d1 r → Indexed tells root list d0 d1 r
+of_list {tells} {root} {given} {list} {d0} {d1} {r} is reads = subst (λ (z : List Entry). Indexed tells root z d0 d1 r) is reads
 
 -- THE KEEPING of contents
 member_may : (tells : Bool) (root : Names) (x : NewContent) (fault : Fault) → NotDirty fault → MayKeepMember (repo_of root) x fault → MaySave tells root fault
@@ -192,18 +219,18 @@ module _ (tells : Bool) (root : Names) (uuid : List ℕ) (list : List NewContent
         }
 
 -- CONTENTS AND A PLAN
-module _ (tells : Bool) (root : Names) (uuid : List ℕ) (list : List NewContent) (moment : ℕ) (plan : SavePlan) where
+module _ (tells : Bool) (root : Names) (uuid : List ℕ) (list : List NewContent) (moment : ℕ) (index : Step (Unit {0})) (plan : SavePlan) where
   abbrev pub WritesAll : List Line → List Line → Drive → Drive → Result (Option Id) Trouble → Type 0
-  WritesAll l0 l1 d0 d1 r = ActsAs (λ fault. MaySave tells root fault) tells (λ g act. IsWritten root uuid list moment plan g act) l0 l1 d0 d1 r
+  WritesAll l0 l1 d0 d1 r = ActsAs (λ fault. MaySave tells root fault) tells (λ g act. IsWritten root uuid list moment index plan g act) l0 l1 d0 d1 r
 
-  joined_act : (g : Ground) (keeps : Act (Unit {0})) → IsKeepAll (repo_of root) uuid list moment g keeps → IsWritten root uuid list moment plan g (bind (λ _. keeps) (λ _. writes root plan) g)
+  joined_act : (g : Ground) (keeps : Act (Unit {0})) → IsKeepAll (repo_of root) uuid list moment g keeps → IsWritten root uuid list moment index plan g (bind (λ _. keeps) (λ _. writes root index plan) g)
   joined_act g keeps is = record { keeps = keeps; keep = is; is = refl }
 
   pub not_kept : {l : List Line} {old new : Drive} {e : Trouble} → Keeping tells root uuid list moment l l old new (Err e) → WritesAll l l old new (Err e)
-  not_kept {l} {old} {new} {e} keeping = as_fails (λ _. writes root plan) (λ t keeps is. joined_act (present old) keeps is) keeping
+  not_kept {l} {old} {new} {e} keeping = as_fails (λ _. writes root index plan) (λ t keeps is. joined_act (present old) keeps is) keeping
 
-  pub kept_and_written : {l m : List Line} {old mid new : Drive} {r : Result (Option Id) Trouble} → Keeping tells root uuid list moment l l old mid (Ok tt) → Writing tells root (writes root plan) l m mid new r → WritesAll l m old new r
-  kept_and_written {l} {m} {old} {mid} {new} {r} keeping writing = as_seq (λ _. writes root plan) (λ t keeps is. joined_act (present old) keeps is) keeping writing
+  pub kept_and_written : {l m : List Line} {old mid new : Drive} {r : Result (Option Id) Trouble} → Keeping tells root uuid list moment l l old mid (Ok tt) → Writing tells root (writes root index plan) l m mid new r → WritesAll l m old new r
+  kept_and_written {l} {m} {old} {mid} {new} {r} keeping writing = as_seq (λ _. writes root index plan) (λ t keeps is. joined_act (present old) keeps is) keeping writing
 
 none_added : (old : List Entry) (files : List WorkingFile) → is_other old files ≡ false → added old files ≡ []
 none_added old files same = by (added old files) (or_neither (not (is_nothing (added old files))) (not (is_nothing (deleted old files))) same).0
@@ -246,13 +273,6 @@ module _ (tells : Bool) (root : Names) (wish : SaveWish) where
     pub starved_then : {l : List Line} → Saves l l old mid (Err NoMemory)
     starved_then = as_starved viewed.later (λ t. (viewed.told t).same)
 
-    -- nothing has changed
-    pub unchanged : {changed : Bool} {line : Line} {l m : List Line} → changed ≡ is_changed view.by.old view.files.items → changed ≡ false → line ≡ dataset_line (codes "notneeded") → m ≡ l ++ line ∷ [] → Saves l m old mid (Ok None)
-    unfolding saves_nothing
-    unchanged {changed} {line} is none same pushes =
-        as_allowed saves_nothing (λ t. clean view.parent.0 view.by view.files.items (at_start t) (sym is ∙ none))
-        (after_reading viewed.later (λ t. (viewed.told t).same) (seq _ (pushed _ line pushes same) done))
-
     -- something has
     pub viewed_first : {l m : List Line} {new : Drive} {r : Result (Option Id) Trouble} → Saves l m mid new r → Saves l m old new r
     viewed_first rest = as_after viewed.later (λ t. (viewed.told t).same) rest
@@ -277,6 +297,21 @@ module _ (tells : Bool) (root : Names) (wish : SaveWish) where
     contents_fail (Refused fault) stood same not = absurd not
     contents_fail Device stood same not = absurd not
     contents_fail NoMemory stood same not = as_starved stood same
+
+    -- NOTHING
+    module _ (changed : is_changed view.by.old view.files.items ≡ false) where
+      pub unindexed : {l : List Line} {new : Drive} (e : Trouble) → Indexed tells root view.by.old old new (Err e) → Saves l l old new (Err e)
+      unindexed e reads = as_unread e (λ fault may. absurd may) (λ t fault why. absurd why) reads
+
+      module _ {indexed : Bool} {mid : Drive} (reads : Indexed tells root view.by.old old mid (Ok indexed)) where
+        pub starved_clean : {l : List Line} → Saves l l old mid (Err NoMemory)
+        starved_clean = as_starved reads.later (λ t. (reads.told t).same)
+
+        pub is_clean : {l m : List Line} {new : Drive} {r : Result (Option Id) Trouble}
+            → Writing tells root (saves_lines (keeps_index indexed root view.by.old) (dataset_line (codes "notneeded") ∷ [])) l m mid new r → Saves l m old new r
+        is_clean writing =
+            as_allowed (saves_lines (keeps_index indexed root view.by.old) (dataset_line (codes "notneeded") ∷ []))
+            (λ t. clean view.parent.0 view.by view.files.items indexed (looked t) changed (reads.told t).answer) (after_reading reads.later (λ t. (reads.told t).same) writing)
 
     -- A COMMIT
     module _ (other : is_other view.by.old view.files.items ≡ true) where
@@ -312,22 +347,26 @@ module _ (tells : Bool) (root : Names) (wish : SaveWish) where
 
         -- it is written
         module _ (none : None ≡ clash_fault [] planned.objects.items) where
-          act_of : (l m : List Line) (last : Drive) (r : Result (Option Id) Trouble) (first : WritesAll tells root planned.uuid list wish.moment (plan_of planned) l m old last r)
-              → IsTrue tells → (act : Act (Option Id)) → IsWritten root planned.uuid list wish.moment (plan_of planned) (present old) act → Goes act l m old last r
+          abbrev index : Step (Unit {0})
+          index = keeps_index planned.indexed root planned.snapshot
+
+          act_of : (l m : List Line) (last : Drive) (r : Result (Option Id) Trouble) (first : WritesAll tells root planned.uuid list wish.moment index (plan_of planned) l m old last r)
+              → IsTrue tells → (act : Act (Option Id)) → IsWritten root planned.uuid list wish.moment index (plan_of planned) (present old) act → Goes act l m old last r
               → (save : Act (Option Id)) × IsSave root wish (present old) save × Goes save l m old last r
           unfolding saves
           act_of l m last r first t act is goes =
               let so = (plans.told t).answer (looked t) in
-              let going : Goes (bind (λ _. is.keeps) (λ _. writes root (plan_of planned)) (present old)) l m old last r = subst (λ (a : Act (Option Id)). Goes a l m old last r) is.is goes in
-              let written : Acts (λ fault. MaySave tells root fault) tells (bind (λ _. is.keeps) (λ _. writes root (plan_of planned))) l m old last r =
+              let going : Goes (bind (λ _. is.keeps) (λ _. writes root index (plan_of planned)) (present old)) l m old last r = subst (λ (a : Act (Option Id)). Goes a l m old last r) is.is goes in
+              let written : Acts (λ fault. MaySave tells root fault) tells (bind (λ _. is.keeps) (λ _. writes root index (plan_of planned))) l m old last r =
               record { later = first.later; cause = first.cause; told = λ _. going } in (
-                saves root (plan_of planned) is.keeps (present old),
-                saved view.parent.0 view.by view.files.items (plan_of planned) is.keeps (looked t) other so.0 so.1
-                    (record { uuid = planned.uuid; own = so.2; keep = is.keep }),
+                saves root index (plan_of planned) is.keeps (present old),
+                subst (λ (entries : List Entry). IsSave root wish (present old) (saves root (keeps_index planned.indexed root entries) (plan_of planned) is.keeps (present old))) (sym so.2.snapshot)
+                    (saved view.parent.0 view.by view.files.items (plan_of planned) is.keeps planned.indexed (looked t) other so.0 so.1
+                    (record { uuid = planned.uuid; own = so.2.uuid; keep = is.keep }) so.2.index),
                 (seq _ (passes (λ g. clash_fault [] planned.objects.items) (λ _. sym none)) written).told t,
               )
 
-          pub is_written : {l m : List Line} {last : Drive} {r : Result (Option Id) Trouble} → WritesAll tells root planned.uuid list wish.moment (plan_of planned) l m mid last r → Saves l m old last r
+          pub is_written : {l m : List Line} {last : Drive} {r : Result (Option Id) Trouble} → WritesAll tells root planned.uuid list wish.moment index (plan_of planned) l m mid last r → Saves l m old last r
           is_written {l} {m} {last} {r} writing =
               let first = as_after plans.later (λ t. (plans.told t).same) writing in
               as_mapped (act_of l m last r first) first
@@ -344,35 +383,48 @@ module _ (tells : Bool) (root : Names) (wish : SaveWish) where
         abbrev lines : List Line
         lines = save_lines view.by.old view.files.items (codes "notneeded")
 
-        -- memory is wanting
-        pub starved_read : {l : List Line} → Saves l l old mid (Err NoMemory)
-        starved_read = as_starved reads.later (λ t. (reads.told t).same)
-
         pub contents_fail_read : {l : List Line} (e : Trouble) → ContentsFail root view.files.items e → Saves l l old mid (Err e)
         contents_fail_read e not = contents_fail e reads.later (λ t. (reads.told t).same) not
 
-        pub sources_read : IsTrue tells → HaveSources (present mid) list
-        sources_read = sources_at mid (λ t. (reads.told t).same)
+        pub unindexed_read : {l : List Line} {new : Drive} (e : Trouble) → Indexed tells root view.by.old mid new (Err e) → Saves l l old new (Err e)
+        unindexed_read e index = as_after reads.later (λ t. (reads.told t).same) (as_unread e (λ fault may. absurd may) (λ t fault why. absurd why) index)
 
         none_refuses : (g : Ground) → settings_fault root g ≡ None → plan_fault root g view.by.old view.files.items ≡ None
         none_refuses g whole = (λ i. or_next (whole i) (sum_fault 0 (blobs_in root g (none_added view.by.old view.files.items same i))))
 
-        allowed : (t : IsTrue tells) (keeps : Act (Unit {0})) → IsKeepAll (repo_of root) config.uuid list wish.moment (present old) keeps
-            → IsSave root wish (present old) (bind (λ _. keeps) (λ _. bind (says_all lines) (λ _. gives None)) (present old))
-        unfolding saves_contents
-        allowed t keeps is =
-            let configured = (reads.told t).answer in
-            kept view.parent.0 view.by view.files.items keeps (looked t) changed same (none_refuses (present old) configured.whole)
-            (record {
-              uuid = config.uuid;
-              own = record { text = configured.text; config = plain_config config; stands = configured.stands; read = configured.configured; own = refl };
-              keep = is;
-            })
+        module _ {indexed : Bool} {last : Drive} (index : Indexed tells root view.by.old mid last (Ok indexed)) where
+          stood : last.faults ≡ old.faults
+          stood = omega (arith, reads.later, index.later)
 
-        -- they aren't kept
-        pub only_not_kept : {l : List Line} {new : Drive} {e : Trouble} → Keeping tells root config.uuid list wish.moment l l mid new (Err e) → Saves l l old new (Err e)
-        only_not_kept keeping = as_fails (λ _. bind (says_all lines) (λ _. gives None)) allowed (as_after reads.later (λ t. (reads.told t).same) keeping)
+          unmoved : IsTrue tells → last.history ≡ old.history
+          unmoved t = (index.told t).same ∙ (reads.told t).same
 
-        -- they are kept
-        pub only_kept : {l m : List Line} {new : Drive} → Keeping tells root config.uuid list wish.moment l l mid new (Ok tt) → m ≡ l ++ lines → Saves l m old new (Ok None)
-        only_kept keeping said = as_seq (λ _. bind (says_all lines) (λ _. gives None)) allowed (as_after reads.later (λ t. (reads.told t).same) keeping) (seq _ (said_each lines said) done)
+          abbrev rest : Step (Option Id)
+          rest = saves_lines (keeps_index indexed root view.by.old) lines
+
+          -- memory is wanting
+          pub starved_read : {l : List Line} → Saves l l old last (Err NoMemory)
+          starved_read = as_starved stood unmoved
+
+          pub sources_read : IsTrue tells → HaveSources (present last) list
+          sources_read = sources_at last unmoved
+
+          allowed : (t : IsTrue tells) (keeps : Act (Unit {0})) → IsKeepAll (repo_of root) config.uuid list wish.moment (present old) keeps → IsSave root wish (present old) (bind (λ _. keeps) (λ _. rest) (present old))
+          unfolding saves_contents
+          allowed t keeps is =
+              let configured = (reads.told t).answer in
+              kept view.parent.0 view.by view.files.items keeps indexed (looked t) changed same (none_refuses (present old) configured.whole)
+              (record {
+                uuid = config.uuid;
+                own = record { text = configured.text; config = plain_config config; stands = configured.stands; read = configured.configured; own = refl };
+                keep = is;
+              })
+              (subst (λ (h : History). HasIndex root view.by.old h.latest.now indexed) (reads.told t).same (index.told t).answer)
+
+          -- they aren't kept
+          pub only_not_kept : {l : List Line} {new : Drive} {e : Trouble} → Keeping tells root config.uuid list wish.moment l l last new (Err e) → Saves l l old new (Err e)
+          only_not_kept keeping = as_fails (λ _. rest) allowed (as_after stood unmoved keeping)
+
+          -- they are kept
+          pub only_kept : {l m : List Line} {now new : Drive} {r : Result (Option Id) Trouble} → Keeping tells root config.uuid list wish.moment l l last now (Ok tt) → Writing tells root rest l m now new r → Saves l m old new r
+          only_kept keeping writing = as_seq (λ _. rest) allowed (as_after stood unmoved keeping) writing

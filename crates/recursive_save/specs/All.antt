@@ -37,6 +37,6 @@ pub use Rattle.recursive_save.specs.Saving.{kept, line_fault, new_blobs, plan_fa
 pub use Rattle.recursive_save.specs.Saving.{save_lines, saved, says_all, settings_fault}
 pub use Rattle.recursive_save.specs.Saving.{settings_in, settings_limit, sum_fault, unplanned}
 pub use Rattle.recursive_save.specs.Saving.{unread, writes}
-unfoldable pub use Rattle.recursive_save.specs.Saving.{saves, saves_contents, saves_nothing}
+unfoldable pub use Rattle.recursive_save.specs.Saving.{saves, saves_contents, saves_lines}
 pub use Rattle.recursive_save.specs.Soundness.{CanCreate, CanSave, CreateKeepsSound, CreatesSound}
 pub use Rattle.recursive_save.specs.Soundness.{SaveKeepsSound, new_head}

@@ -9,8 +9,8 @@ use Rattle.faults.specs.declared.faults.Fault.TheVariants.{AlreadyThere, TooLarg
 use Rattle.file_store.specs.All.{only}
 use Rattle.file_store.specs.declared.replacing.Replacement.{Replacement}
 use Rattle.git_objects.specs.declared.ids.Id.{Id}
-use Rattle.repository.specs.All.{tmp_place, repo_of, config_place, settings_place, main_place}
-use Rattle.repository.specs.All.{head_place, repo_limit, large}
+use Rattle.repository.specs.All.{tmp_place, repo_of, config_place, settings_place, index_place}
+use Rattle.repository.specs.All.{main_place, head_place, repo_limit, large}
 use Rattle.acts.specs.All.{Step, gives, unless, says, bind, puts}
 use Rattle.object_store.specs.All.{IsFoundAmong, IsTooLong, puts_objects}
 use Rattle.recursive_save.specs.First.{NewDataset, Parts, new_parts, dataset_config, first_id}
@@ -21,12 +21,14 @@ abbrev pub by_tmp : Names → ℕ → Names → List ℕ → Replacement
 by_tmp root i place bytes =
     record { tmp = tmp_place (repo_of root) i; place = place; bytes = bytes }
 
--- The files between the objects and HEAD: `.datalad/config`, `.dlrepo/config` and the branch.
-abbrev pub middle_files : Names → List ℕ → List ℕ → List ℕ → List Replacement
-middle_files root config settings main =
+-- The files between the objects and HEAD: `.datalad/config`, the index, `.dlrepo/config` and the
+-- branch.
+abbrev pub middle_files : Names → List ℕ → List ℕ → List ℕ → List ℕ → List Replacement
+middle_files root config index settings main =
     by_tmp root 0 (config_place root) config
-    ∷ by_tmp root 1 (settings_place root) settings
-    ∷ by_tmp root 2 (main_place root) main ∷ []
+    ∷ by_tmp root 1 (index_place root) index
+    ∷ by_tmp root 2 (settings_place root) settings
+    ∷ by_tmp root 3 (main_place root) main ∷ []
 
 -- No file stands at or below the root.
 abbrev pub IsVacant : Names → Ground → Type 0
@@ -36,7 +38,7 @@ IsVacant root g = (stands g root || stands_below g root) ≡ false
 abbrev pub dataset_step : Names → Parts → Step (Unit {0})
 dataset_step root parts =
     bind (puts_objects (repo_of root) parts.objects) (λ _.
-    bind (puts (middle_files root parts.config parts.settings parts.main)) (λ _.
+    bind (puts (middle_files root parts.config parts.index parts.settings parts.main)) (λ _.
     puts (only (tmp_place (repo_of root) 0) (head_place root) head_text)))
 
 -- Why no dataset is made at a root: a file stands at or below it, or its repository's place is too

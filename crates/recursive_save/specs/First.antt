@@ -1,5 +1,5 @@
--- A new dataset: its texts, its objects, and the ground that has it.
-use Rattle.std.specs.Prelude.{ℕ, List, [], ◌∷◌, ◌++◌, codes, Some}
+-- A new dataset: its texts, its objects, its index, and the ground that has it.
+use Rattle.std.specs.Prelude.{ℕ, false, List, [], ◌∷◌, ◌++◌, codes, Some}
 use Rattle.places.specs.All.{Names, Ground}
 use Rattle.file_store.specs.All.{Round, finally}
 use Rattle.git_objects.specs.All.{oid, hex_of, entry_of, person_of, commit_text}
@@ -7,9 +7,13 @@ use Rattle.git_objects.specs.declared.objects.ObjKind.TheVariants.{Blob, Tree, C
 use Rattle.git_objects.specs.declared.entries.Mode.TheVariants.{File, Dir}
 use Rattle.config_text.specs.All.{printed_section, repo_text, uuid_text, made}
 use Rattle.config_text.specs.declared.uuids.Role.TheVariants.{Dataset, Repository}
+use Rattle.index_store.specs.All.{snapshot_text}
 use Rattle.object_store.specs.All.{objects_round}
 use Rattle.object_store.specs.declared.objects.NewObject.{NewObject}
-use Rattle.repository.specs.All.{repo_of, config_place, settings_place, main_place, head_place}
+use Rattle.repository.specs.All.{repo_of, config_place, settings_place, index_place, main_place}
+use Rattle.repository.specs.All.{head_place}
+use Rattle.snapshot.specs.declared.entries.Entry.{Entry}
+use Rattle.snapshot.specs.declared.entries.Leaf.TheVariants.{Git}
 
 -- `.datalad/config`: the dataset's id.
 unfoldable pub dataset_config : List ℕ → Names → List ℕ
@@ -62,6 +66,13 @@ first_objects config moment =
     ∷ record { kind = Tree; body = root_tree config }
     ∷ record { kind = Commit; body = first_commit config moment } ∷ []
 
+-- The snapshot of the first commit: `.datalad/config` alone.
+abbrev pub first_snapshot : List ℕ → List Entry
+first_snapshot config = record {
+  path = codes ".datalad/config";
+  leaf = Git (record { 0 = oid Blob config }) false;
+} ∷ []
+
 -- The file of the branch `main`.
 abbrev pub main_text : List ℕ → ℕ → List ℕ
 main_text config moment = hex_of (first_id config moment) ++ 10 ∷ []
@@ -74,6 +85,7 @@ head_text = codes "ref: refs/heads/main\n"
 pub record Parts : Type 0 where
   pub config : List ℕ
   pub settings : List ℕ
+  pub index : List ℕ
   pub main : List ℕ
   pub objects : List NewObject
 
@@ -82,8 +94,8 @@ pub record Parts : Type 0 where
 abbrev pub dataset_rounds : Names → Parts → List Round
 dataset_rounds root parts =
     objects_round (repo_of root) parts.objects
-    ∷ ((config_place root, Some parts.config) ∷ (settings_place root, Some parts.settings)
-    ∷ (main_place root, Some parts.main) ∷ [])
+    ∷ ((config_place root, Some parts.config) ∷ (index_place root, Some parts.index)
+    ∷ (settings_place root, Some parts.settings) ∷ (main_place root, Some parts.main) ∷ [])
     ∷ ((head_place root, Some head_text) ∷ []) ∷ []
 
 -- A ground with a dataset of these texts and objects at a root.
@@ -105,6 +117,7 @@ abbrev pub new_parts : NewDataset → Parts
 new_parts dataset = record {
   config = dataset_config dataset.fresh dataset.root;
   settings = settings_text dataset.fresh dataset.root;
+  index = snapshot_text (first_snapshot (dataset_config dataset.fresh dataset.root));
   main = main_text (dataset_config dataset.fresh dataset.root) dataset.moment;
   objects = first_objects (dataset_config dataset.fresh dataset.root) dataset.moment;
 }

@@ -9,6 +9,7 @@ use Rattle.faults.specs.declared.faults.Trouble.TheVariants.{Refused, NoMemory}
 use Rattle.git_objects.specs.All.{oid, Fields, IsCommitText}
 use Rattle.git_objects.specs.declared.objects.ObjKind.TheVariants.{Commit}
 use Rattle.config_text.specs.All.{PlainConfig}
+use Rattle.index_store.specs.All.{HasIndex}
 use Rattle.repository.specs.All.{settings_place}
 use Rattle.object_store.specs.declared.objects.NewObject.{NewObject}
 use Rattle.snapshot.specs.All.{IsBuilt, IsLeastClash}
@@ -29,14 +30,22 @@ plan_of planned = record {
   lines = planned.lines.items;
 }
 
--- Where this is what was looked at: nothing refuses the plan, it is the save's, and the
--- repository's UUID comes with it.
+-- What comes with a plan of what was looked at: the new snapshot, whether the index is that of it,
+-- and the repository's UUID.
+pub record IsPlannedWith (root : Names) (view : View) (g : Ground) (planned : Planned) : Type 0
+  where
+    pub snapshot : planned.snapshot ≡ new_entries view.by.old view.files.items
+    pub index : HasIndex root (new_entries view.by.old view.files.items) g planned.indexed
+    pub uuid : HasUuid root planned.uuid g
+
+-- Where this is what was looked at: nothing refuses the plan, it is the save's, and this comes with
+-- it.
 abbrev pub IsPlannedOf : Names → SaveWish → View → Ground → Planned → Type 0
 IsPlannedOf root wish view g planned =
     IsView root wish.to_git g view
     → (plan_fault root g view.by.old view.files.items ≡ None)
     × IsSavePlan root wish g view.parent.0 view.by.old view.files.items (plan_of planned)
-    × HasUuid root planned.uuid g
+    × IsPlannedWith root view g planned
 
 -- Where this is what was looked at: the refusal is the plan's.
 abbrev pub IsPlanRefusal : Names → SaveWish → View → Ground → Fault → Type 0

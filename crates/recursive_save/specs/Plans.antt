@@ -8,6 +8,7 @@ abbrev pub parts_of : Plan → Parts
 parts_of plan = record {
   config = plan.config;
   settings = plan.settings;
+  index = plan.index;
   main = plan.main;
   objects = plan.objects.items;
 }

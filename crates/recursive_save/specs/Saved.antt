@@ -1,7 +1,7 @@
 -- What follows of a save.
-use Rattle.std.specs.Prelude.{◌≡◌, ℕ, List, [], ◌∷◌, ◌++◌, Option, Some, None, Result, Ok, Err}
+use Rattle.std.specs.Prelude.{◌≡◌, ◌⊎◌, ℕ, List, [], ◌∷◌, ◌++◌, Option, Some, None, Result, Ok, Err}
 use Rattle.std.specs.Prelude.{codes}
-use Rattle.places.specs.All.{Names, Ground}
+use Rattle.places.specs.All.{Names, Ground, file_at}
 use Rattle.faults.specs.declared.lines.Line.{Line}
 use Rattle.faults.specs.declared.faults.Fault.{Fault}
 use Rattle.faults.specs.declared.faults.Fault.TheVariants.{TooLarge, UnsupportedMode, OddKind}
@@ -9,7 +9,7 @@ use Rattle.faults.specs.declared.faults.Fault.TheVariants.{Collision, Blocked, T
 use Rattle.faults.specs.declared.faults.Trouble.{Trouble}
 use Rattle.file_store.specs.All.{Disk, Drive, Since, IsImage, WasOpen, present}
 use Rattle.git_objects.specs.declared.ids.Id.{Id}
-use Rattle.repository.specs.All.{repo_of}
+use Rattle.repository.specs.All.{index_place, repo_of}
 use Rattle.acts.specs.All.{Act, Ending, Gives, Refuses, Breaks, Moments, last_of, IsFixed, Nothing}
 use Rattle.acts.specs.All.{OldOrNew, NewWithAll}
 use Rattle.ref_store.specs.All.{IsTipPlace}
@@ -42,16 +42,22 @@ SaveSays before after (Ok None) =
     × (after ≡ before ++ changes ++ dataset_line (codes "notneeded") ∷ [])
 SaveSays before after (Err trouble) = after ≡ before
 
+-- Something else may stand at a place; or it is the index, as it was.
+abbrev pub OrOldIndex : Names → Ground → (Names → Option (List ℕ) → Type 0) → Names
+    → Option (List ℕ) → Type 0
+OrOldIndex root g Else q v = Else q v ⊎ ((q ≡ index_place root) × (v ≡ file_at g q))
+
 -- Of the ground g at the start, and of the one to which the act comes, x: nothing outside the
 -- repository has changed; each place is as in one of the two; HEAD and each branch are as they were
--- unless all the rest is as in the other; and what was held is held.
+-- unless all the rest is as in the other, but for the index, which comes last and may still be as
+-- it was; and what was held is held.
 pub record SaveRemains (root : Names) (end : Ground) (Else : Names → Option (List ℕ) → Type 0)
     (g x : Ground)
     : Type 0 where
   pub outside : SameOutside (repo_of root) Else g x
   pub places : OldOrNew Else g end x
   pub tip : (place : Names) → IsTipPlace (repo_of root) place → IsFixed place
-      → NewWithAll Else place g end x
+      → NewWithAll (OrOldIndex root g Else) place g end x
   pub held : HeldStay Else g x
 
 -- What is left in what stands, and in each ground that a crash may leave, where a place that was

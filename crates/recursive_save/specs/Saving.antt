@@ -18,6 +18,7 @@ use Rattle.annex_keys.specs.All.{PlainKey, key_text}
 use Rattle.annex_store.specs.All.{IsKeepAll, MayReadLog, log_place}
 use Rattle.annex_store.specs.declared.members.NewContent.{NewContent}
 use Rattle.kept_files.specs.All.{new_blob}
+use Rattle.index_store.specs.All.{HasIndex, keeps_index}
 use Rattle.config_text.specs.All.{PlainConfig, config_in}
 use Rattle.repository.specs.All.{repo_of, settings_place, object_place}
 use Rattle.acts.specs.All.{Act, Step, still, Refuses, gives, says, unless, bind, each}
@@ -152,47 +153,52 @@ pub record IsSavePlan (root : Names) (wish : SaveWish) (g : Ground) (parent : Li
 abbrev pub says_all : List Line → Step (Unit {0})
 says_all lines = each says lines
 
--- The writing of a plan: its objects; the tip; its lines.
-abbrev pub writes : Names → SavePlan → Step (Option Id)
-writes root plan =
+-- The writing of a plan: its objects; the tip; the index, by this step; its lines.
+abbrev pub writes : Names → Step (Unit {0}) → SavePlan → Step (Option Id)
+writes root index plan =
     bind (puts_objects (repo_of root) plan.objects) (λ _.
     bind (sets_tip (repo_of root) plan.commit) (λ _.
+    bind index (λ _.
     bind (says_all plan.lines) (λ _.
-    gives (Some (record { 0 = plan.commit })))))
+    gives (Some (record { 0 = plan.commit }))))))
 
 -- An act that keeps these contents at a moment, and then writes a plan.
 pub record IsWritten (root : Names) (uuid : List ℕ) (list : List NewContent) (moment : ℕ)
-    (plan : SavePlan) (g : Ground) (act : Act (Option Id)) : Type 0 where
+    (index : Step (Unit {0})) (plan : SavePlan) (g : Ground) (act : Act (Option Id))
+    : Type 0 where
   pub keeps : Act (Unit {0})
   pub keep : IsKeepAll (repo_of root) uuid list moment g keeps
-  pub is : act ≡ bind (λ _. keeps) (λ _. writes root plan) g
+  pub is : act ≡ bind (λ _. keeps) (λ _. writes root index plan) g
 
 -- A planned save: unless two of its objects collide, the contents are kept, and then the plan is
 -- written.
-unfoldable pub saves : Names → SavePlan → Act (Unit {0}) → Step (Option Id)
-saves root plan keeps =
+unfoldable pub saves : Names → Step (Unit {0}) → SavePlan → Act (Unit {0}) → Step (Option Id)
+saves root index plan keeps =
     bind (unless (λ g. clash_fault [] plan.objects)) (λ _.
-    bind (λ _. keeps) (λ _. writes root plan))
+    bind (λ _. keeps) (λ _. writes root index plan))
 
--- A save of what hasn't changed but for contents that were lacked: they are kept, and it says its
--- lines; there is no commit.
-unfoldable pub saves_contents : List Line → Act (Unit {0}) → Step (Option Id)
-saves_contents lines keeps =
-    bind (λ _. keeps) (λ _. bind (says_all lines) (λ _. gives None))
+-- A save without a commit: the index is made that of HEAD's snapshot, and it says its lines.
+unfoldable pub saves_lines : Step (Unit {0}) → List Line → Step (Option Id)
+saves_lines index lines = bind index (λ _. bind (says_all lines) (λ _. gives None))
 
--- A save of what hasn't changed: its line, and no commit.
-unfoldable pub saves_nothing : Step (Option Id)
-saves_nothing = bind (says (dataset_line (codes "notneeded"))) (λ _. gives None)
+-- A save of what hasn't changed but for contents that were lacked: they are kept; there is no
+-- commit.
+unfoldable pub saves_contents : Step (Unit {0}) → List Line → Act (Unit {0}) → Step (Option Id)
+saves_contents index lines keeps = bind (λ _. keeps) (λ _. saves_lines index lines)
 
 -- THE SAVE of a dataset: refused for what it reads; nothing to save; refused for what it plans;
 -- refused since two of its objects collide, whatever the logs say; only contents to keep; or
--- contents and a commit of the working files.
+-- contents and a commit of the working files. Where it isn't refused, the index is that of the
+-- dataset's snapshot at its end: it stays where it was that at the start, and is written if not.
 pub data IsSave (root : Names) (wish : SaveWish) (g : Ground) : Act (Option Id) → Type 0 where
   unread : (fault : Fault) → IsUnread root wish.to_git g fault
       → IsSave root wish g (still (Refuses fault))
   clean : (parent : List ℕ) (by : KeepBy) (files : List WorkingFile)
+      (indexed : Bool)
       → IsRead root wish.to_git g parent by files → is_changed by.old files ≡ false
-      → IsSave root wish g (saves_nothing g)
+      → HasIndex root by.old g indexed
+      → IsSave root wish g
+      (saves_lines (keeps_index indexed root by.old) (dataset_line (codes "notneeded") ∷ []) g)
   unplanned : (parent : List ℕ) (by : KeepBy) (files : List WorkingFile) (fault : Fault)
       → IsRead root wish.to_git g parent by files → is_changed by.old files ≡ true
       → plan_fault root g by.old files ≡ Some fault
@@ -204,17 +210,20 @@ pub data IsSave (root : Names) (wish : SaveWish) (g : Ground) : Act (Option Id) 
       → clash_fault [] plan.objects ≡ Some fault
       → IsSave root wish g (still (Refuses fault))
   kept : (parent : List ℕ) (by : KeepBy) (files : List WorkingFile) (keeps : Act (Unit {0}))
+      (indexed : Bool)
       → IsRead root wish.to_git g parent by files → is_changed by.old files ≡ true
       → is_other by.old files ≡ false → plan_fault root g by.old files ≡ None
-      → IsKeepingOf root wish.moment g by files keeps
-      → IsSave root wish g
-      (saves_contents (save_lines by.old files (codes "notneeded")) keeps g)
+      → IsKeepingOf root wish.moment g by files keeps → HasIndex root by.old g indexed
+      → IsSave root wish g (saves_contents (keeps_index indexed root by.old)
+      (save_lines by.old files (codes "notneeded")) keeps g)
   saved : (parent : List ℕ) (by : KeepBy) (files : List WorkingFile) (plan : SavePlan)
-      (keeps : Act (Unit {0}))
+      (keeps : Act (Unit {0})) (indexed : Bool)
       → IsRead root wish.to_git g parent by files → is_other by.old files ≡ true
       → plan_fault root g by.old files ≡ None → IsSavePlan root wish g parent by.old files plan
       → IsKeepingOf root wish.moment g by files keeps
-      → IsSave root wish g (saves root plan keeps g)
+      → HasIndex root (new_entries by.old files) g indexed
+      → IsSave root wish g
+      (saves root (keeps_index indexed root (new_entries by.old files)) plan keeps g)
 
 -- What is past a limit where a dataset is saved: where it is looked at; the text of the
 -- configuration; the bytes of the new blobs; the place or the text of a log; the place of the

@@ -19,8 +19,8 @@ use file_store::{Bytes, Files, Kind, Place, Replacement};
 use git_objects::Id;
 use object_store::put_all;
 use repository::{
-    REPO_LIMIT, config_place, head_place, main_place, repo_place, repo_place_text, settings_place,
-    tmp_place, too_large,
+    REPO_LIMIT, config_place, head_place, index_place, main_place, repo_place, repo_place_text,
+    settings_place, tmp_place, too_large,
 };
 use std::alloc::{AllocError, Global};
 
@@ -57,20 +57,23 @@ fn middle(
     root: &Place,
     repo: &Place,
     config: Bytes,
+    index: Bytes,
     settings: Bytes,
     main: Bytes,
 ) -> Result<Vec<Replacement>, AllocError>
     requires repo { repo.now ≡ repo_of root.now }
     requires fits { length (text_of repo.now) ≤ repo_limit }
-    ensures { IfOk result (λ list. list.items ≡ middle_files root.now config settings main) }
+    ensures { IfOk result (λ list. list.items ≡ middle_files root.now config index settings main) }
 {
     let mut list = Vec::new(alloc);
     let place = config_place(alloc, root)?;
     list.push(by_tmp(alloc, repo, 0, place, config)?)?;
+    let place = index_place(alloc, root)?;
+    list.push(by_tmp(alloc, repo, 1, place, index)?)?;
     let place = settings_place(alloc, root)?;
-    list.push(by_tmp(alloc, repo, 1, place, settings)?)?;
+    list.push(by_tmp(alloc, repo, 2, place, settings)?)?;
     let place = main_place(alloc, root)?;
-    list.push(by_tmp(alloc, repo, 2, place, main)?)?;
+    list.push(by_tmp(alloc, repo, 3, place, main)?)?;
     Ok(list)
 }
 
@@ -87,10 +90,18 @@ fn write_dataset<F: Files>(
     ensures { ActsQuietly (λ fault. MayPut F.tells repo.now plan.objects.items fault) F.tells
         (dataset_step root.now (parts_of plan)) (F.drive files.old) (F.drive files.new) result }
 {
-    let middle = middle(alloc, root, repo, plan.config, plan.settings, plan.main)?;
+    let Plan {
+        config,
+        index,
+        settings,
+        main,
+        objects,
+        ..
+    } = plan;
+    let middle = middle(alloc, root, repo, config, index, settings, main)?;
     let tmp = tmp_place(alloc, repo, 0)?;
     let head = head_place(alloc, root)?;
-    put_all(alloc, files, repo, plan.objects.as_slice())?;
+    put_all(alloc, files, repo, objects.as_slice())?;
     put_files(alloc, files, middle.as_slice())?;
     put_file(alloc, files, &tmp, &head, head_file().as_bytes())?;
     Ok(())

@@ -1,15 +1,18 @@
-// What a new dataset holds: its texts, and the objects of its first commit.
+// What a new dataset holds: its texts, its index, and the objects of its first commit.
 ghost use Rattle.std.specs.Prelude.{◌≡◌, ◌++◌, ◌∷◌, [], IfOk, IsTrue};
 ghost use Rattle.git_objects.specs.All.{entry_of, is_entry, person_text, commit_text, hex_of};
 ghost use Rattle.config_text.specs.All.{made, uuid_text, printed};
 ghost use Rattle.recursive_save.specs.First.{new_dataset, dataset_config, settings_text, default_person, first_message};
-ghost use Rattle.recursive_save.specs.First.{first_objects, first_id, head_text};
+ghost use Rattle.index_store.specs.All.{snapshot_text};
+ghost use Rattle.recursive_save.specs.First.{first_objects, first_id, first_snapshot, head_text};
 ghost use Rattle.recursive_save.specs.Plans.{IsPlan};
 
 use config_text::{ConfErr, Entry, RepoConfig, Role, Section, made_uuid, print};
 use file_store::{Bytes, Place, Text};
 use git_objects::{Commit, Id, Mode, ObjErr, ObjKind, Person, Tree, TreeEntry, object_id};
+use index_store::snapshot_text;
 use object_store::NewObject;
+use snapshot::{Entry as SnapshotEntry, Leaf, Snapshot};
 use std::alloc::{AllocError, Global};
 use uuid::Uuid;
 
@@ -18,6 +21,7 @@ use uuid::Uuid;
 pub(crate) struct Plan {
     pub(crate) config: Bytes,
     pub(crate) settings: Bytes,
+    pub(crate) index: Bytes,
     pub(crate) main: Bytes,
     pub(crate) objects: Vec<NewObject>,
     pub(crate) id: Id,
@@ -195,6 +199,27 @@ pub(crate) fn new_object(kind: ObjKind, body: Vec<u8>) -> NewObject
     }
 }
 
+// The snapshot of a first commit, whose configuration this is.
+fn first_snapshot(alloc: Global, config: &[u8]) -> Result<Snapshot, AllocError>
+    ensures { IfOk result (λ snapshot. snapshot ≡ first_snapshot config.now) }
+{
+    let id = object_id(ObjKind::Blob, config);
+    let mut entries = Vec::new(alloc);
+    entries.push(SnapshotEntry {
+        path: text(alloc, ".datalad/config")?,
+        leaf: Leaf::Git { id, exec: false },
+    })?;
+    Ok(Snapshot::of_ordered(entries))
+}
+
+// The index of a new dataset.
+fn first_index(alloc: Global, config: &[u8]) -> Result<Vec<u8>, AllocError>
+    ensures { IfOk result (λ bytes. bytes.items ≡ snapshot_text (first_snapshot config.now)) }
+{
+    let snapshot = first_snapshot(alloc, config)?;
+    snapshot_text(alloc, &snapshot)
+}
+
 // The file of a branch at a commit.
 fn branch_file(alloc: Global, id: &Id) -> Result<Vec<u8>, AllocError>
     ensures { IfOk result (λ text. text.items ≡ hex_of id.now.0 ++ 10 ∷ []) }
@@ -223,11 +248,13 @@ pub(crate) fn make_plan(
 {
     let config = config_of(alloc, fresh, root)?;
     let settings = settings_of(alloc, fresh, root)?;
+    let index = first_index(alloc, config.as_slice())?;
     let first = first_commit(alloc, config.as_slice(), moment)?;
     let main = branch_file(alloc, &first.id)?;
     Ok(Plan {
         config: Bytes::new(config),
         settings: Bytes::new(settings),
+        index: Bytes::new(index),
         main: Bytes::new(main),
         objects: first.objects,
         id: first.id,

@@ -4,7 +4,7 @@ ghost use Rattle.file_store.specs.All.{present};
 ghost use Rattle.git_objects.specs.All.{person_text, person_of};
 ghost use Rattle.config_text.specs.All.{plain_config};
 ghost use Rattle.acts.specs.All.{Reads};
-ghost use Rattle.tree_status.specs.All.{ArePaths, IsView, paths_of};
+ghost use Rattle.tree_status.specs.All.{ArePaths, IsView, new_entries, paths_of};
 ghost use Rattle.recursive_save.specs.Configured.{HasPerson};
 ghost use Rattle.recursive_save.specs.Saved.{AreSaveLines};
 ghost use Rattle.recursive_save.specs.Saving.{dataset_line, save_commit, save_lines};
@@ -20,18 +20,22 @@ use config_text::RepoConfig;
 use faults::{Line, Trouble};
 use file_store::{Bytes, Files, Place};
 use git_objects::{Commit, Id, ObjErr, ObjKind, Person, object_id};
+use index_store::has_index;
 use object_store::NewObject;
-use snapshot::build;
+use snapshot::{Snapshot, build};
 use std::alloc::{AllocError, Global};
 use tree_status::{View, added_files, changes_of, new_snapshot};
 use uuid::Uuid;
 
-/// The objects of a save, its commit's id, its lines, and the UUID of the repository.
+/// The objects of a save, its commit's id, its lines, the new snapshot, whether the index is that of it already, and the
+/// UUID of the repository.
 #[derive(Drop)]
 pub(crate) struct Planned {
     pub(crate) objects: Vec<NewObject>,
     pub(crate) commit: Id,
     pub(crate) lines: Vec<Line>,
+    pub(crate) snapshot: Snapshot,
+    pub(crate) indexed: bool,
     pub(crate) uuid: Uuid,
 }
 
@@ -109,16 +113,20 @@ fn complete(
     view: &View,
     wish: &SaveWish,
     blobs: Vec<NewObject>,
+    new: Snapshot,
+    indexed: bool,
 ) -> Result<Planned, Trouble>
+    requires new { new ≡ new_entries view.now.by.old view.now.files.items }
     requires person { HasPerson config.now }
     requires ordered { ArePaths (paths_of view.now.files.items) }
     ensures plan { IfOk result (λ planned. IsPlanWith (plain_config config.now) view.now wish.now blobs.items
         (plan_of planned)) }
     ensures own { IfOk result (λ planned. planned.uuid ≡ config.now.uuid) }
+    ensures snapshot { IfOk result (λ planned. planned.snapshot ≡ new) }
+    ensures indexed { IfOk result (λ planned. planned.indexed ≡ indexed) }
     ensures said { IfOk result (λ planned. AreSaveLines (codes "ok") planned.lines.items) }
     ensures fails { IfErr result (PlanFails view.now) }
 {
-    let new = new_snapshot(alloc, view.by.old(), view.files.as_slice())?;
     let mut built = build(alloc, &new)?;
     let lines = save_lines(alloc, view, "ok")?;
     let body = commit_body(alloc, config, wish, built.root, view.parent)?;
@@ -130,6 +138,8 @@ fn complete(
         objects,
         commit,
         lines,
+        snapshot: new,
+        indexed,
         uuid: config.uuid,
     })
 }
@@ -155,5 +165,7 @@ pub(crate) fn plan<F: Files>(
     let config = read_settings(alloc, files, root)?;
     let added = added_files(alloc, view.by.old(), view.files.as_slice())?;
     let blobs = read_blobs(alloc, files, root, added.as_slice())?;
-    complete(alloc, &config, view, wish, blobs)
+    let new = new_snapshot(alloc, view.by.old(), view.files.as_slice())?;
+    let indexed = has_index(alloc, files, root, &new)?;
+    complete(alloc, &config, view, wish, blobs, new, indexed)
 }

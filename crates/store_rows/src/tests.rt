@@ -2,6 +2,7 @@
 mod call_rows;
 mod common;
 mod crash_rows;
+mod index_rows;
 mod layout_rows;
 mod list_rows;
 mod output_rows;

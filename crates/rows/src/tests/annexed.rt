@@ -3,6 +3,7 @@
 use super::calls::{Row, place, says};
 use super::create::{DATASET, MADE};
 use super::files::{File, holds, memory_of};
+use super::save_stops::with;
 use super::saves::says_in;
 use file_store::{Files, MemFiles};
 use std::alloc::Global;
@@ -65,6 +66,21 @@ pub(super) const TIP: File<'static> = File {
     bytes: b"ca612f923187ce8cfcaed3c94e2c5c9ec3f8b3e4\n",
 };
 
+/// The index after it.
+pub(super) const INDEX: File<'static> = File {
+    place: "/w/ds/.dlrepo/index",
+    bytes: b"DIRC\0\0\0\x02\0\0\0\x02\
+          \0\0\0\0\0\0\0\0\0\0\0\0\0\0\0\0\0\0\0\0\0\0\0\0\
+          \0\0\x81\xa4\0\0\0\0\0\0\0\0\0\0\0\0\
+          \xd4\x18]/\xf8Q\xe1\xa9\x97\xee#a\xff\x8c\xba\xd6M{\xe1\xa2\
+          \0\x0f.datalad/config\0\0\0\
+          \0\0\0\0\0\0\0\0\0\0\0\0\0\0\0\0\0\0\0\0\0\0\0\0\
+          \0\0\x81\xa4\0\0\0\0\0\0\0\0\0\0\0\0\
+          9\xb3\xec\xb6\x85\xe7\xd0\x18P\x07<\x97\xec\xc2\x0a\xee\xb6\x99\xa3\x0c\
+          \0\x09hello.txt\0\
+          T'\xdf\xa5\xbd0\xbe%a\xf8i\x13\x14\x89\x04\xa8\xa8\x12\x96\x1d",
+};
+
 /// The call that saves it.
 pub(super) const SAVE: Row<'static> = Row {
     words: "save -m a",
@@ -124,14 +140,11 @@ fn saved(rt: &impl Abort, alloc: Global) -> MemFiles {
     files
 }
 
-// What stands with it saved: the dataset but for its branch, and the rest of it.
+// What stands with it saved: the dataset with its new branch and index, and the rest of it.
 fn stands(rt: &impl Abort, alloc: Global, files: &MemFiles) {
-    let mut list = Vec::new(alloc);
-    for file in DATASET[..7]
-        .iter()
-        .chain(&[HELLO, CONTENT, LOG, TIP])
-        .chain(&OBJECTS)
-    {
+    let set = with(rt, alloc, &DATASET, TIP);
+    let mut list = with(rt, alloc, set.as_slice(), INDEX);
+    for file in [HELLO, CONTENT, LOG].iter().chain(&OBJECTS) {
         list.push(*file).expect(rt, "memory");
     }
     let wanted = memory_of(rt, alloc, list.as_slice());
@@ -146,6 +159,26 @@ fn a_file_is_annexed(rt: HostRuntime) {
     let mut files = saved(rt, alloc);
     stands(rt, alloc, &files);
     call(rt, alloc, &mut files, &CLEAN);
+    call(rt, alloc, &mut files, &UNCHANGED);
+    stands(rt, alloc, &files);
+}
+
+// An index that is none, or none at all, refuses nothing, and is whole after the next save.
+#[test]
+fn a_bad_index_is_made_whole(rt: HostRuntime) {
+    let (rt, alloc) = (&rt, rt.alloc());
+    let mut files = saved(rt, alloc);
+    for bytes in [&INDEX.bytes[..10], &[], DATASET[3].bytes] {
+        let file = File {
+            place: INDEX.place,
+            bytes,
+        };
+        write(rt, alloc, &mut files, &file);
+        call(rt, alloc, &mut files, &CLEAN);
+        call(rt, alloc, &mut files, &UNCHANGED);
+        stands(rt, alloc, &files);
+    }
+    remove(rt, alloc, &mut files, INDEX.place);
     call(rt, alloc, &mut files, &UNCHANGED);
     stands(rt, alloc, &files);
 }

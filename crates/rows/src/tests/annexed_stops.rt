@@ -1,10 +1,11 @@
 // `save` of an annexed file is stopped at each of its calls of the files, and a crash follows: the content stands before
-// its log, both before the objects, and all of them before the branch.
-use super::annexed::{CONTENT, HELLO, LOG, OBJECTS, SAVE, TIP};
+// its log, both before the objects, all of them before the branch, and this before the index.
+use super::annexed::{CONTENT, HELLO, INDEX, LOG, OBJECTS, SAVE, TIP};
 use super::calls::Row;
 use super::courses::is_along;
 use super::create::DATASET;
 use super::files::{File, memory_of};
+use super::save_stops::with;
 use super::saves::says_in;
 use std::alloc::Global;
 use std::process::Abort;
@@ -17,29 +18,28 @@ const CUT_OFF: Row<'static> = Row {
 };
 
 // A ground with some files more.
-fn with(
+fn more(
     rt: &impl Abort,
     alloc: Global,
     ground: &[File<'static>],
-    more: &[File<'static>],
+    new: &[File<'static>],
 ) -> Vec<File<'static>> {
     let mut files = Vec::new(alloc);
-    for file in ground.iter().chain(more) {
+    for file in ground.iter().chain(new) {
         files.push(*file).expect(rt, "memory");
     }
     files
 }
 
-// What stands before the save; once its content is kept; its log set; its objects put; and after it.
-fn course_of_save(rt: &impl Abort, alloc: Global) -> [Vec<File<'static>>; 5] {
-    let rest = with(rt, alloc, &DATASET[..7], &[HELLO, CONTENT, LOG]);
-    let rest = with(rt, alloc, rest.as_slice(), &OBJECTS);
-    let before = with(rt, alloc, &DATASET, &[HELLO]);
-    let kept = with(rt, alloc, before.as_slice(), &[CONTENT]);
-    let told = with(rt, alloc, kept.as_slice(), &[LOG]);
-    let put = with(rt, alloc, told.as_slice(), &OBJECTS);
-    let after = with(rt, alloc, rest.as_slice(), &[TIP]);
-    [before, kept, told, put, after]
+// What stands before the save; once its content is kept; its log set; its objects put; its branch set; and after it.
+fn course_of_save(rt: &impl Abort, alloc: Global) -> [Vec<File<'static>>; 6] {
+    let before = more(rt, alloc, &DATASET, &[HELLO]);
+    let kept = more(rt, alloc, before.as_slice(), &[CONTENT]);
+    let told = more(rt, alloc, kept.as_slice(), &[LOG]);
+    let put = more(rt, alloc, told.as_slice(), &OBJECTS);
+    let set = with(rt, alloc, put.as_slice(), TIP);
+    let after = with(rt, alloc, set.as_slice(), INDEX);
+    [before, kept, told, put, set, after]
 }
 
 // A save that is stopped at this call, whatever a crash then leaves.

@@ -1,5 +1,5 @@
 // What stands after `create ds`: the ids are those of Python's `uuid`, the objects' names those of
-// `git hash-object`.
+// `git hash-object`, the index is that of `git update-index`.
 use super::calls::{Row, says};
 use super::files::{File, holds};
 use file_store::MemFiles;
@@ -21,7 +21,7 @@ pub(super) const THERE: Row<'static> = Row {
 };
 
 // In byte order of the places.
-pub(super) const DATASET: [File<'static>; 8] = [
+pub(super) const DATASET: [File<'static>; 9] = [
     File {
         place: "/w/ds/.datalad/config",
         bytes: b"[datalad \"dataset\"]\n\tid = 7ca59145-b5ac-5ef3-90ad-600653b12e0d\n",
@@ -38,6 +38,15 @@ pub(super) const DATASET: [File<'static>; 8] = [
               [user]\n\
               \tname = DataLad User\n\
               \temail = user@localhost\n",
+    },
+    File {
+        place: "/w/ds/.dlrepo/index",
+        bytes: b"DIRC\0\0\0\x02\0\0\0\x01\
+              \0\0\0\0\0\0\0\0\0\0\0\0\0\0\0\0\0\0\0\0\0\0\0\0\
+              \0\0\x81\xa4\0\0\0\0\0\0\0\0\0\0\0\0\
+              \xd4\x18]/\xf8Q\xe1\xa9\x97\xee#a\xff\x8c\xba\xd6M{\xe1\xa2\
+              \0\x0f.datalad/config\0\0\0\
+              \xb8Z\xae\xd0\xfe\x8c\xfa\x90&\xda\x08\xc0lD\xfb\x02s:Q\xa5",
     },
     File {
         place: "/w/ds/.dlrepo/objects/2f/128274e4da73db7f0b8270f0863d2c034bbe8c",

@@ -14,7 +14,7 @@ pub(super) const FAILED: Row<'static> = Row {
 };
 
 /// How many calls of the files `create` makes where nothing stands.
-pub(super) const CALLS: u64 = 27;
+pub(super) const CALLS: u64 = 29;
 
 fn numbers(rt: &impl Abort, alloc: Global, list: &[u64]) -> Vec<u64> {
     list.to_vec(alloc).expect(rt, "memory")

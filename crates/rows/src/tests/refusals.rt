@@ -93,7 +93,7 @@ fn is_made(rt: &impl Abort, alloc: Global, words: &str, out: &str) {
         err: "",
     };
     says(rt, alloc, &mut files, &row);
-    is_count(rt, count_of(rt, alloc, &files), 8);
+    is_count(rt, count_of(rt, alloc, &files), 9);
 }
 
 // `create` of a place whose repository's place has 3,584 bytes, and of one with a byte more.

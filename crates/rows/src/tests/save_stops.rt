@@ -9,6 +9,8 @@ use std::process::Abort;
 
 const TIP: &str = "/w/ds/.dlrepo/refs/heads/main";
 
+const INDEX: &str = "/w/ds/.dlrepo/index";
+
 // The working files.
 const WORK: [File<'static>; 2] = [
     File {
@@ -61,6 +63,24 @@ const NEW_TIP: File<'static> = File {
     bytes: b"86f434388abe1c672e8a4f51743f62204ee1d94e\n",
 };
 
+const NEW_INDEX: File<'static> = File {
+    place: INDEX,
+    bytes: b"DIRC\0\0\0\x02\0\0\0\x03\
+          \0\0\0\0\0\0\0\0\0\0\0\0\0\0\0\0\0\0\0\0\0\0\0\0\
+          \0\0\x81\xa4\0\0\0\0\0\0\0\0\0\0\0\0\
+          \xd4\x18]/\xf8Q\xe1\xa9\x97\xee#a\xff\x8c\xba\xd6M{\xe1\xa2\
+          \0\x0f.datalad/config\0\0\0\
+          \0\0\0\0\0\0\0\0\0\0\0\0\0\0\0\0\0\0\0\0\0\0\0\0\
+          \0\0\x81\xa4\0\0\0\0\0\0\0\0\0\0\0\0\
+          x\x98\x19\x22a;*\xfb`%\x04/\xf6\xbd\x87\x8a\xc1\x99N\x85\
+          \0\x01a\0\
+          \0\0\0\0\0\0\0\0\0\0\0\0\0\0\0\0\0\0\0\0\0\0\0\0\
+          \0\0\x81\xa4\0\0\0\0\0\0\0\0\0\0\0\0\
+          \xf2\xadlv\xf0\x11Zk\xa5\xb0\x04V\xa8I\x81\x0e~\xc0\xaf \
+          \0\x03b/c\0\0\0\0\0\0\0\
+          Zo\xaf\xa7\x22\xe0\x8e2\xfa\xeb\xd6:\xa80E\x84;[z\xb3",
+};
+
 const SAVED: (&str, &str) = (
     "add(ok): a (file)\nadd(ok): b/c (file)\nsave(ok): . (dataset)\n",
     "",
@@ -85,14 +105,28 @@ fn joined(
     files
 }
 
-// What stands before the save, once its objects are put, and after it.
-fn course_of_save(rt: &impl Abort, alloc: Global) -> [Vec<File<'static>>; 3] {
+// The same files with this one in the place of that which stands there.
+pub(super) fn with(
+    rt: &impl Abort,
+    alloc: Global,
+    files: &[File<'static>],
+    new: File<'static>,
+) -> Vec<File<'static>> {
+    let mut list = Vec::new(alloc);
+    for file in files {
+        let file = if file.place == new.place { new } else { *file };
+        list.push(file).expect(rt, "memory");
+    }
+    list
+}
+
+// What stands before the save; once its objects are put; once its tip is set; and after it.
+fn course_of_save(rt: &impl Abort, alloc: Global) -> [Vec<File<'static>>; 4] {
     let before = joined(rt, alloc, &DATASET, &WORK);
     let put = joined(rt, alloc, before.as_slice(), &OBJECTS);
-    let untold = joined(rt, alloc, &DATASET[..7], &WORK);
-    let unset = joined(rt, alloc, untold.as_slice(), &OBJECTS);
-    let after = joined(rt, alloc, unset.as_slice(), &[NEW_TIP]);
-    [before, put, after]
+    let set = with(rt, alloc, put.as_slice(), NEW_TIP);
+    let after = with(rt, alloc, set.as_slice(), NEW_INDEX);
+    [before, put, set, after]
 }
 
 // A save that is stopped at this call, whatever a crash then leaves.

@@ -70,7 +70,7 @@ fn no_course_of_create(rt: HostRuntime) {
         &[config],
         &[head, settings],
         &[other],
-        &DATASET[..7],
+        &DATASET[..8],
     ] {
         assert!(rt; !lies_along_create(&rt, alloc, files));
     }

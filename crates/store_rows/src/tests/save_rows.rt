@@ -101,7 +101,7 @@ const THREE: Saved<'static> = Saved {
 };
 
 // The files of a new dataset, of which four are objects, and one more.
-const COUNT: usize = 9;
+const COUNT: usize = 10;
 
 // The tree of 64 bytes, and the commit of 208, each behind its header.
 const TREE: &str = "/w/ds/.dlrepo/objects/10/6c1293428b0a3894280c5ee0356f46e15810cb";

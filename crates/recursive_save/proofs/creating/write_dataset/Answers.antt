@@ -14,7 +14,7 @@ put_files-requires g c =
     let root = c.args.root.now in
     let parts = parts_of c.args.plan in
     subst CanReplace (sym (c.as_slice-2.ensures.value ∙ c.in_ok-middle.ensures))
-    (ours_can root _ (middle_ours root parts.config parts.settings parts.main) (middle_apart root parts.config parts.settings parts.main))
+    (ours_can root _ (middle_ours root parts.config parts.index parts.settings parts.main) (middle_apart root parts.config parts.index parts.settings parts.main))
 
 pub put_file-requires : goal.put_file-requires
 put_file-requires g c =

@@ -1,7 +1,7 @@
-use Rattle.std.proofs.Common.{◌∷◌, ◌++◌, [], ◌∙◌, ap, sym}
+use Rattle.std.proofs.Common.{◌∙◌, sym}
 use Rattle.acts.proofs.As.{as_exits}
 use Rattle.tree_status.specs.All.{is_changed, is_other}
-use Rattle.recursive_save.proofs.Saves.{looked_at, unchanged, unplaced, unviewed, viewed_first}
+use Rattle.recursive_save.proofs.Saves.{looked_at, unplaced, unviewed, viewed_first}
 use Rattle.recursive_save.proofs.saving.save.Goals as goal
 
 pub returns-in_err-repo-clause-acts : goal.returns-in_err-repo-clause-acts
@@ -11,10 +11,13 @@ pub returns-in_err-view-clause-acts : goal.returns-in_err-view-clause-acts
 returns-in_err-view-clause-acts g c = as_exits c.from_residual-in_err-view.ensures.1 (unviewed g.F.Files.tells c.args.root.now c.args.wish.now c.in_err-view.field-0.0 c.in_err-view.ensures.reads)
 
 pub returns-then-not-branch-clause-acts : goal.returns-then-not-branch-clause-acts
-returns-then-not-branch-clause-acts g c =
-    unchanged g.F.Files.tells c.args.root.now c.args.wish.now c.in_ok-view.ensures.reads
-    (c.in_ok-is_changed.ensures ∙ (λ i. is_changed (c.old.ensures.value i) (c.as_slice.ensures.value i))) c.if-not-branch.true c.in_ok-line.ensures
-    (c.in_ok-push.ensures.items ∙ ap (λ l. l ++ c.in_ok-line.line ∷ []) c.reserve.ensures.items)
+returns-then-not-branch-clause-acts g c = viewed_first g.F.Files.tells c.args.root.now c.args.wish.now c.in_ok-view.ensures.reads c.save_nothing.ensures.acts
+
+pub save_nothing-requires-clause-looked : goal.save_nothing-requires-clause-looked
+save_nothing-requires-clause-looked g c = looked_at g.F.Files.tells c.args.root.now c.args.wish.now c.in_ok-view.ensures.reads
+
+pub save_nothing-requires-clause-same : goal.save_nothing-requires-clause-same
+save_nothing-requires-clause-same g c = sym (c.in_ok-is_changed.ensures ∙ (λ i. is_changed (c.old.ensures.value i) (c.as_slice.ensures.value i))) ∙ c.if-not-branch.true
 
 pub returns-then-branch-clause-acts : goal.returns-then-branch-clause-acts
 returns-then-branch-clause-acts g c = viewed_first g.F.Files.tells c.args.root.now c.args.wish.now c.in_ok-view.ensures.reads c.save_files.ensures.acts

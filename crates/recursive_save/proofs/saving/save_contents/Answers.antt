@@ -4,7 +4,8 @@ use Rattle.acts.proofs.As.{as_exits, as_same_lines}
 use Rattle.tree_status.specs.declared.found.WorkingFile.{WorkingFile}
 use Rattle.recursive_save.specs.Contents.{ContentsFail, contents}
 use Rattle.recursive_save.proofs.SaidLines.{said_after}
-use Rattle.recursive_save.proofs.Saves.{contents_fail_read, keeps_them, not_configured, only_kept, only_not_kept, sources_read}
+use Rattle.recursive_save.proofs.Saves.{contents_fail_read, indexes_it, keeps_them, not_configured, not_indexed, of_list, only_kept, only_not_kept}
+use Rattle.recursive_save.proofs.Saves.{says_then, sources_read}
 use Rattle.recursive_save.proofs.Sources.{are_outside}
 use Rattle.recursive_save.proofs.saving.save_contents.Goals as goal
 
@@ -28,10 +29,27 @@ returns-in_err-keep_all-clause-acts g c =
     let wish = c.args.wish.now in
     let files = view.files.items in
     let is = c.as_slice-list.ensures.value ∙ c.in_ok-contents.ensures.contents ∙ ap (contents root view.by) c.as_slice.ensures.value in
-    let sources = sources_read tells root wish view (drive c.args.files.now) c.requires.looked c.requires.changed c.requires.same c.in_ok-config.ensures.reads in
+    let index = of_list c.old.ensures.value c.in_ok-indexed.ensures in
+    let sources = sources_read tells root wish view (drive c.args.files.now) c.requires.looked c.requires.changed c.requires.same c.in_ok-config.ensures.reads index in
     as_same_lines c.reserve.ensures.items (as_exits c.from_residual-in_err-keep_all.ensures.1
-    (only_not_kept tells root wish view (drive c.args.files.now) c.requires.looked c.requires.changed c.requires.same c.in_ok-config.ensures.reads
+    (only_not_kept tells root wish view (drive c.args.files.now) c.requires.looked c.requires.changed c.requires.same c.in_ok-config.ensures.reads index
     (keeps_them tells root c.in_ok-config.config.uuid (contents root view.by files) wish.moment sources c.requires.repo is (are_outside root view.by files c.requires.ordered) c.in_err-keep_all.ensures)))
+
+pub returns-in_err-keep_index-clause-acts : goal.returns-in_err-keep_index-clause-acts
+returns-in_err-keep_index-clause-acts g c =
+    let tells = g.F.Files.tells in
+    let root = c.args.root.now in
+    let view = c.args.view.now in
+    let drive = g.F.Files.drive in
+    let wish = c.args.wish.now in
+    let files = view.files.items in
+    let is = c.as_slice-list.ensures.value ∙ c.in_ok-contents.ensures.contents ∙ ap (contents root view.by) c.as_slice.ensures.value in
+    let index = of_list c.old.ensures.value c.in_ok-indexed.ensures in
+    let sources = sources_read tells root wish view (drive c.args.files.now) c.requires.looked c.requires.changed c.requires.same c.in_ok-config.ensures.reads index in
+    as_same_lines c.reserve.ensures.items (as_exits c.from_residual-in_err-keep_index.ensures.1
+    (only_kept tells root wish view (drive c.args.files.now) c.requires.looked c.requires.changed c.requires.same c.in_ok-config.ensures.reads index
+    (keeps_them tells root c.in_ok-config.config.uuid (contents root view.by files) wish.moment sources c.requires.repo is (are_outside root view.by files c.requires.ordered) c.in_ok-keep_all.ensures)
+    (not_indexed tells root _ (indexes_it tells root _ c.old-2.ensures.value c.in_err-keep_index.ensures))))
 
 pub returns-clause-says : goal.returns-clause-says
 returns-clause-says g c =
@@ -47,7 +65,8 @@ returns-clause-acts g c =
     let wish = c.args.wish.now in
     let files = view.files.items in
     let is = c.as_slice-list.ensures.value ∙ c.in_ok-contents.ensures.contents ∙ ap (contents root view.by) c.as_slice.ensures.value in
-    let sources = sources_read tells root wish view (drive c.args.files.now) c.requires.looked c.requires.changed c.requires.same c.in_ok-config.ensures.reads in
-    only_kept tells root wish view (drive c.args.files.now) c.requires.looked c.requires.changed c.requires.same c.in_ok-config.ensures.reads
+    let index = of_list c.old.ensures.value c.in_ok-indexed.ensures in
+    let sources = sources_read tells root wish view (drive c.args.files.now) c.requires.looked c.requires.changed c.requires.same c.in_ok-config.ensures.reads index in
+    only_kept tells root wish view (drive c.args.files.now) c.requires.looked c.requires.changed c.requires.same c.in_ok-config.ensures.reads index
     (keeps_them tells root c.in_ok-config.config.uuid (contents root view.by files) wish.moment sources c.requires.repo is (are_outside root view.by files c.requires.ordered) c.in_ok-keep_all.ensures)
-    (c.in_ok-append.ensures.items ∙ (λ i. c.reserve.ensures.items i ++ c.in_ok-more.ensures.lines i))
+    (says_then tells root _ (indexes_it tells root _ c.old-2.ensures.value c.in_ok-keep_index.ensures) (c.in_ok-append.ensures.items ∙ (λ i. c.reserve.ensures.items i ++ c.in_ok-more.ensures.lines i)))

@@ -4,6 +4,7 @@ use Rattle.file_store.specs.All.{present}
 use Rattle.acts.proofs.As.{as_exits}
 use Rattle.annex_store.specs.All.{AreOutside}
 use Rattle.annex_store.specs.declared.members.NewContent.{NewContent}
+use Rattle.index_store.specs.All.{keeps_index}
 use Rattle.tree_status.specs.declared.found.WorkingFile.{WorkingFile}
 use Rattle.recursive_save.specs.Contents.{ContentsFail, HaveSources, contents}
 use Rattle.recursive_save.specs.Planned.{plan_of}
@@ -37,7 +38,7 @@ returns-clause-acts g c =
     let wish = c.args.wish.now in
     let planned = c.in_ok-planned.planned in
     let is = c.as_slice-list.ensures.value ∙ c.in_ok-contents.ensures.contents ∙ ap (contents root view.by) c.as_slice-2.ensures.value in
-    let writing = subst (λ (list : List NewContent). WritesAll tells root planned.uuid list wish.moment (plan_of planned) c.args.lines.now.items c.keep_and_write.new.lines.items (drive c.plan.new.files) (drive c.keep_and_write.new.files) c.keep_and_write.result) is c.keep_and_write.ensures.acts in
+    let writing = subst (λ (list : List NewContent). WritesAll tells root planned.uuid list wish.moment (keeps_index planned.indexed root planned.snapshot) (plan_of planned) c.args.lines.now.items c.keep_and_write.new.lines.items (drive c.plan.new.files) (drive c.keep_and_write.new.files) c.keep_and_write.result) is c.keep_and_write.ensures.acts in
     is_written tells root wish view (drive c.args.files.now) c.requires.looked c.requires.other c.in_ok-planned.ensures.reads
     (sym c.in_default.is ∙ c.in_ok-fault.ensures ∙ ap (clash_fault []) c.as_slice.ensures.value) writing
 

@@ -1,0 +1,4 @@
+pub mod Entries
+pub mod Near
+pub mod Readings
+pub mod Sets
